@@ -2,22 +2,23 @@
 use Rattle.std.proofs.Common.{◌≡◌, ◌∙◌, Bool, false, List, [], Option, Some, None, Bor, IfOk, IfErr, ap, refl, sym, codes}
 use Rattle.std.specs.Option.{option_map, option_map_or, option_eq, ok_or, unwrap_or}
 use Rattle.std.specs.Str.{bytes_eq}
-use Rattle.clap.specs.Words.{Text, all_of, first_value, matched_of, raw_values, rows_of}
+use Rattle.clap.specs.Words.{Text, all_of, first_of, first_value, matched_of, raw_values, rows_of}
 use Rattle.clap.specs.declared.parser.matches.Found.{Found}
 use Rattle.clap.proofs.WalkLemmas.{first_value-rows, raw_values-rows}
-use Rattle.ftl_arguments.specs.Found.{is_given, file_in}
+use Rattle.ftl_arguments.specs.Found.{file_in}
 use Rattle.ftl_arguments.specs.Meaning.{texts}
 
--- a value that is compared with `true`
+-- a value that is compared with a word
 pub given : (same : Bor Text → Bor Text → Bool) → ((a b : Bor Text) → same a b ≡ bytes_eq a.now b.now)
-    → (o : Option (Bor Text)) (t : Bor Text) → t.now ≡ codes "true" → (f : Found) (name : Text)
-    → option_map (λ s. s.now) o ≡ first_value f name → option_eq same o (Some t) ≡ is_given name (rows_of f)
-given same is o t true_text f name found =
-    compared o ∙ ap (λ v. option_map_or (λ s. bytes_eq s (codes "true")) v false) (found ∙ first_value-rows f name)
+    → (o : Option (Bor Text)) (t : Bor Text) (word : Text) → t.now ≡ word → (f : Found) (name : Text)
+    → option_map (λ s. s.now) o ≡ first_value f name
+    → option_eq same o (Some t) ≡ option_map_or (λ s. bytes_eq s word) (first_of name (rows_of f)) false
+given same is o t word is_word f name found =
+    compared o ∙ ap (λ v. option_map_or (λ s. bytes_eq s word) v false) (found ∙ first_value-rows f name)
   where
-    compared : (o : Option (Bor Text)) → option_eq same o (Some t) ≡ option_map_or (λ s. bytes_eq s (codes "true")) (option_map (λ s. s.now) o) false
+    compared : (o : Option (Bor Text)) → option_eq same o (Some t) ≡ option_map_or (λ s. bytes_eq s word) (option_map (λ s. s.now) o) false
     compared None = refl
-    compared (Some s) = is s t ∙ ap (bytes_eq s.now) true_text
+    compared (Some s) = is s t ∙ ap (bytes_eq s.now) is_word
 
 module _ {E : Type 0} (error : E) (f : Found) where
   -- the first value of `FILE`, or the error

@@ -1,17 +1,17 @@
 -- What a parse by `clap` says of the words.
-use Rattle.std.proofs.Common.{◌≡◌, ◌∙◌, true, List, [], ◌∷◌, Option, None, Result, Ok, Err, ap, refl, subst, sym, inl, inr}
+use Rattle.std.proofs.Common.{◌≡◌, ◌∙◌, Bool, true, List, [], ◌∷◌, Option, None, Result, Ok, Err, ap, refl, subst, sym, inl, inr}
 use Rattle.std.specs.Prelude.{IsErrOf}
 use Rattle.clap.specs.Words.{App, HasKind, HasMatchesOf, IsAmong, Kinds, Text, fault_of, is_simple, is_simple_and_free, kind_of, subcommand_of, subcommand_rows_of}
 use Rattle.clap.specs.declared.error.Error.{Error}
 use Rattle.clap.specs.declared.error.kind.ErrorKind.{ErrorKind}
 use Rattle.clap.specs.declared.error.kind.ErrorKind.TheVariants.{DisplayHelp, DisplayVersion, OutOfMemory}
 use Rattle.clap.specs.declared.parser.matches.ArgMatches.{ArgMatches}
-use Rattle.ftl_arguments.specs.CommandView.{AskFor, IfRefused, IsTextOf}
+use Rattle.ftl_arguments.specs.CommandView.{AskFor, IfBad, IsTextOf}
 use Rattle.ftl_arguments.specs.Commands.{program_app}
 use Rattle.ftl_arguments.specs.declared.commands.Invocation.{Invocation}
 use Rattle.ftl_arguments.specs.declared.commands.Invocation.TheVariants.{Command, Help, Version}
-use Rattle.ftl_arguments.specs.declared.reading.WordsError.{WordsError}
-use Rattle.ftl_arguments.specs.declared.reading.WordsError.TheVariants.{Memory}
+use Rattle.ftl_arguments.specs.declared.errors.CommandError.{CommandError}
+use Rattle.ftl_arguments.specs.declared.errors.CommandError.TheVariants.{Memory, Bad}
 use Rattle.ftl_arguments.specs.Meaning.{Asked, asked_of, command_of, faults_of, without_faults}
 
 program_is_simple : is_simple program_app ≡ true
@@ -25,10 +25,11 @@ module _ (app : App) (is : app ≡ program_app) (words : List Text) where
   no_faults taken = ap (λ a. fault_of a words) (sym is) ∙ taken (ap is_simple_and_free is ∙ program_is_free)
 
   -- what is asked, where nothing is wrong
-  pub asked : (m : ArgMatches) → HasMatchesOf app words m → faults_of words ≡ [] → command_of words ≡ asked_of (subcommand_rows_of m)
-  asked m matches none =
-      ap (λ k. without_faults k (asked_of (subcommand_of program_app words))) none
-      ∙ ap asked_of (ap (λ a. subcommand_of a words) (sym is) ∙ sym (matches (ap is_simple is ∙ program_is_simple)).1)
+  pub asked : (colours : Bool) (m : ArgMatches) → HasMatchesOf app words m → faults_of words ≡ [] →
+      command_of colours words ≡ asked_of colours (subcommand_rows_of m)
+  asked colours m matches none =
+      ap (λ k. without_faults k (asked_of colours (subcommand_of program_app words))) none
+      ∙ ap (asked_of colours) (ap (λ a. subcommand_of a words) (sym is) ∙ sym (matches (ap is_simple is ∙ program_is_simple)).1)
 
   -- an error that tells of no refused growth has a kind that the words make
   pub among : (e : Error) → (is_simple_and_free app ≡ true → HasKind (fault_of app words) e) → (kind_of e ≡ OutOfMemory → ⊥) → IsAmong (kind_of e) (faults_of words)
@@ -43,8 +44,8 @@ refused : (k : ErrorKind) (kinds : Kinds) (meant : Option Asked) → IsAmong k k
 refused k [] meant one = absurd one
 refused k (x ∷ xs) meant one = refl
 
-pub nothing_asked : (words : List Text) (k : ErrorKind) → IsAmong k (faults_of words) → command_of words ≡ None
-nothing_asked words k one = refused k (faults_of words) (asked_of (subcommand_of program_app words)) one
+pub nothing_asked : (colours : Bool) (words : List Text) (k : ErrorKind) → IsAmong k (faults_of words) → command_of colours words ≡ None
+nothing_asked colours words k one = refused k (faults_of words) (asked_of colours (subcommand_of program_app words)) one
 
 among_one : (k x : ErrorKind) → IsAmong k (x ∷ []) → k ≡ x
 among_one k x (inl same) = same
@@ -58,24 +59,36 @@ not_alone words asked k one other alone = other (among_one k asked (rw alone at 
 pub none_asked : (words : List Text) (asked : ErrorKind) → faults_of words ≡ [] → faults_of words ≡ asked ∷ [] → ⊥
 none_asked words asked none alone = let both : ◌≡◌ {A = Kinds} [] (asked ∷ []) = sym none ∙ alone in absurd cc
 
-error_is : {T : Type 0} {error other : WordsError} → IsErrOf {T = T} (Err error) other → error ≡ other
-error_is is = cc
+-- what is so of the words is so of any that are bad
+pub bad_always : {T Fact : Type 0} (result : Result T CommandError) → Fact → IfBad result Fact
+bad_always (Ok value) fact = tt
+bad_always (Err error) fact = λ bad. fact
 
 -- the text that an error stands for is what the words ask for
-module _ (words : List Text) (k : ErrorKind) (among : (k ≡ OutOfMemory → ⊥) → IsAmong k (faults_of words)) where
+module _ (colours : Bool) (words : List Text) (k : ErrorKind) (among : (k ≡ OutOfMemory → ⊥) → IsAmong k (faults_of words)) where
   of_kind : (asked : ErrorKind) → k ≡ asked → (asked ≡ OutOfMemory → ⊥) → IsAmong k (faults_of words)
   of_kind asked is other = among (λ memory. other (sym is ∙ memory))
 
-  pub text_asked : (i : Invocation) → IsTextOf k i → AskFor words i
+  pub text_asked : (i : Invocation) → IsTextOf k i → AskFor colours words i
   text_asked (Command command) none = absurd none
   text_asked (Help text) is =
       let one = of_kind DisplayHelp is (λ memory. absurd cc) in
-      (nothing_asked words k one, subst (λ kind. IsAmong kind (faults_of words)) is one)
+      (nothing_asked colours words k one, subst (λ kind. IsAmong kind (faults_of words)) is one)
   text_asked (Version line) is =
       let one = of_kind DisplayVersion is.0 (λ memory. absurd cc) in
-      (nothing_asked words k one, (subst (λ kind. IsAmong kind (faults_of words)) is.0 one, is.1))
+      (nothing_asked colours words k one, (subst (λ kind. IsAmong kind (faults_of words)) is.0 one, is.1))
 
   -- with an error, and not for want of memory, the words ask for no command
-  pub refused_unasked : {T : Type 0} (result : Result T WordsError) → (k ≡ OutOfMemory → IsErrOf result Memory) → IfRefused result (command_of words ≡ None)
+  pub refused_unasked : {T : Type 0} (result : Result T CommandError) → (k ≡ OutOfMemory → IsErrOf result Memory) →
+      IfBad result (command_of colours words ≡ None)
   refused_unasked (Ok value) memory = tt
-  refused_unasked (Err error) memory = λ other. nothing_asked words k (among (λ is. other (error_is (memory is))))
+  refused_unasked (Err Memory) memory = λ bad. absurd bad
+  refused_unasked (Err (Bad advice)) memory = λ bad. nothing_asked colours words k (among (λ is. let no = memory is in absurd cc))
+
+  -- and what was told is none of the texts, so they don't ask for one alone
+  pub bad_not_alone : {T : Type 0} (asked : ErrorKind) (result : Result T CommandError) → (k ≡ OutOfMemory → IsErrOf result Memory) →
+      IfBad result (k ≡ asked → ⊥) → IfBad result (faults_of words ≡ asked ∷ [] → ⊥)
+  bad_not_alone asked (Ok value) memory other = tt
+  bad_not_alone asked (Err Memory) memory other = λ bad. absurd bad
+  bad_not_alone asked (Err (Bad advice)) memory other = λ bad.
+      not_alone words asked k (among (λ is. let no = memory is in absurd cc)) (other bad)

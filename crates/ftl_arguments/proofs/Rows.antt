@@ -21,39 +21,39 @@ the_version : AskForVersionAlone (codes "--version" ∷ [])
 unfolding clap_on_literals
 the_version = refl
 
-two_files : command_of (codes "run" ∷ codes "a" ∷ codes "b-" ∷ [])
+two_files : command_of false (codes "run" ∷ codes "a" ∷ codes "b-" ∷ [])
     ≡ Some (run (record { isolating = true; overriding = false; locale = None; plain_numbers = false; files = codes "a" ∷ codes "b-" ∷ [] }))
 unfolding clap_on_literals
 two_files = refl
 
-options_between_files : command_of (codes "run" ∷ codes "a" ∷ codes "--no-isolating" ∷ codes "--overriding" ∷ codes "b" ∷ [])
+options_between_files : command_of false (codes "run" ∷ codes "a" ∷ codes "--no-isolating" ∷ codes "--overriding" ∷ codes "b" ∷ [])
     ≡ Some (run (record { isolating = false; overriding = true; locale = None; plain_numbers = false; files = codes "a" ∷ codes "b" ∷ [] }))
 unfolding clap_on_literals
 options_between_files = refl
 
-a_locale : command_of (codes "run" ∷ codes "--locale" ∷ codes "pl_PL.UTF-8" ∷ codes "a" ∷ [])
+a_locale : command_of false (codes "run" ∷ codes "--locale" ∷ codes "pl_PL.UTF-8" ∷ codes "a" ∷ [])
     ≡ Some (run (record { isolating = true; overriding = false; locale = Some (codes "pl_PL.UTF-8"); plain_numbers = false; files = codes "a" ∷ [] }))
 unfolding clap_on_literals
 a_locale = refl
 
-plain_numbers : command_of (codes "run" ∷ codes "--plain-numbers" ∷ codes "--locale" ∷ codes "de" ∷ codes "a" ∷ [])
+plain_numbers : command_of false (codes "run" ∷ codes "--plain-numbers" ∷ codes "--locale" ∷ codes "de" ∷ codes "a" ∷ [])
     ≡ Some (run (record { isolating = true; overriding = false; locale = Some (codes "de"); plain_numbers = true; files = codes "a" ∷ [] }))
 unfolding clap_on_literals
 plain_numbers = refl
 
-files_behind_two_hyphens : command_of (codes "check" ∷ codes "--" ∷ codes "-a" ∷ codes "--b" ∷ []) ≡ Some (check (codes "-a" ∷ codes "--b" ∷ []))
+files_behind_two_hyphens : command_of false (codes "check" ∷ codes "--" ∷ codes "-a" ∷ codes "--b" ∷ []) ≡ Some (check (codes "-a" ∷ codes "--b" ∷ []))
 unfolding clap_on_literals
 files_behind_two_hyphens = refl
 
-one_to_clean : command_of (codes "clean" ∷ codes "a" ∷ []) ≡ Some (tidy (clean (codes "a")))
+one_to_clean : command_of false (codes "clean" ∷ codes "a" ∷ []) ≡ Some (tidy (clean (codes "a")))
 unfolding clap_on_literals
 one_to_clean = refl
 
-two_to_join : command_of (codes "join" ∷ codes "a" ∷ codes "b" ∷ []) ≡ Some (tidy (join (codes "a" ∷ codes "b" ∷ [])))
+two_to_join : command_of false (codes "join" ∷ codes "a" ∷ codes "b" ∷ []) ≡ Some (tidy (join (codes "a" ∷ codes "b" ∷ [])))
 unfolding clap_on_literals
 two_to_join = refl
 
-one_message : command_of (codes "format" ∷ codes "login.title" ∷ codes "a" ∷ codes "--argument" ∷ codes "n=-1" ∷ codes "b" ∷ codes "--argument=n=x=y" ∷ [])
+one_message : command_of false (codes "format" ∷ codes "login.title" ∷ codes "a" ∷ codes "--argument" ∷ codes "n=-1" ∷ codes "b" ∷ codes "--argument=n=x=y" ∷ [])
     ≡ Some (format (record {
       isolating = true;
       overriding = false;
@@ -65,7 +65,7 @@ one_message : command_of (codes "format" ∷ codes "login.title" ∷ codes "a" �
 unfolding clap_on_literals
 one_message = refl
 
-a_message_with_options : command_of (codes "format" ∷ codes "--overriding" ∷ codes "hi" ∷ codes "--locale" ∷ codes "pl" ∷ codes "--no-isolating" ∷ codes "a" ∷ [])
+a_message_with_options : command_of false (codes "format" ∷ codes "--overriding" ∷ codes "hi" ∷ codes "--locale" ∷ codes "pl" ∷ codes "--no-isolating" ∷ codes "a" ∷ [])
     ≡ Some (format (record {
       isolating = false;
       overriding = true;
@@ -77,21 +77,21 @@ a_message_with_options : command_of (codes "format" ∷ codes "--overriding" ∷
 unfolding clap_on_literals
 a_message_with_options = refl
 
-no_value : command_of (codes "format" ∷ codes "hi" ∷ codes "a" ∷ codes "--argument" ∷ codes "name" ∷ []) ≡ None
+no_value : command_of false (codes "format" ∷ codes "hi" ∷ codes "a" ∷ codes "--argument" ∷ codes "name" ∷ []) ≡ None
 unfolding clap_on_literals
 no_value = refl
 
-a_lint : command_of (codes "lint" ∷ codes "a" ∷ [])
+a_lint : command_of false (codes "lint" ∷ codes "a" ∷ [])
     ≡ Some (lint (record { references = []; functions = []; ignored = []; locale = None; notes = false; counts = false; strict = false; format = text; files = codes "a" ∷ [] }))
 unfolding clap_on_literals
 a_lint = refl
 
-a_lint_of_the_input : command_of (codes "lint" ∷ codes "--strict" ∷ codes "-" ∷ [])
+a_lint_of_the_input : command_of false (codes "lint" ∷ codes "--strict" ∷ codes "-" ∷ [])
     ≡ Some (lint_input (record { references = []; functions = []; ignored = []; locale = None; notes = false; counts = false; strict = true; format = text; files = codes "-" ∷ [] }))
 unfolding clap_on_literals
 a_lint_of_the_input = refl
 
-a_lint_with_options : command_of (codes "lint" ∷ codes "--reference" ∷ codes "r1" ∷ codes "a" ∷ codes "--notes" ∷ codes "--function=F" ∷ codes "--reference=r2" ∷ codes "--strict" ∷ codes "--locale" ∷ codes "pl_PL.UTF-8" ∷ codes "--function" ∷ codes "G" ∷ codes "--format" ∷ codes "json" ∷ codes "b" ∷ [])
+a_lint_with_options : command_of false (codes "lint" ∷ codes "--reference" ∷ codes "r1" ∷ codes "a" ∷ codes "--notes" ∷ codes "--function=F" ∷ codes "--reference=r2" ∷ codes "--strict" ∷ codes "--locale" ∷ codes "pl_PL.UTF-8" ∷ codes "--function" ∷ codes "G" ∷ codes "--format" ∷ codes "json" ∷ codes "b" ∷ [])
     ≡ Some (lint (record {
       references = codes "r1" ∷ codes "r2" ∷ [];
       functions = codes "F" ∷ codes "G" ∷ [];
@@ -106,25 +106,35 @@ a_lint_with_options : command_of (codes "lint" ∷ codes "--reference" ∷ codes
 unfolding clap_on_literals
 a_lint_with_options = refl
 
-in_colours : command_of (codes "lint" ∷ codes "--color=always" ∷ codes "a" ∷ [])
+in_colours : command_of false (codes "lint" ∷ codes "--color=always" ∷ codes "a" ∷ [])
     ≡ Some (lint (record { references = []; functions = []; ignored = []; locale = None; notes = false; counts = false; strict = false; format = terminal; files = codes "a" ∷ [] }))
 unfolding clap_on_literals
 in_colours = refl
 
-no_colours_in_json : command_of (codes "lint" ∷ codes "--color" ∷ codes "always" ∷ codes "--format" ∷ codes "json" ∷ codes "a" ∷ [])
+on_a_screen : command_of true (codes "lint" ∷ codes "a" ∷ [])
+    ≡ Some (lint (record { references = []; functions = []; ignored = []; locale = None; notes = false; counts = false; strict = false; format = terminal; files = codes "a" ∷ [] }))
+unfolding clap_on_literals
+on_a_screen = refl
+
+never_on_a_screen : command_of true (codes "lint" ∷ codes "--color=never" ∷ codes "a" ∷ [])
+    ≡ Some (lint (record { references = []; functions = []; ignored = []; locale = None; notes = false; counts = false; strict = false; format = text; files = codes "a" ∷ [] }))
+unfolding clap_on_literals
+never_on_a_screen = refl
+
+no_colours_in_json : command_of false (codes "lint" ∷ codes "--color" ∷ codes "always" ∷ codes "--format" ∷ codes "json" ∷ codes "a" ∷ [])
     ≡ Some (lint (record { references = []; functions = []; ignored = []; locale = None; notes = false; counts = false; strict = false; format = json; files = codes "a" ∷ [] }))
 unfolding clap_on_literals
 no_colours_in_json = refl
 
-no_such_colours : command_of (codes "lint" ∷ codes "--color" ∷ codes "yes" ∷ codes "a" ∷ []) ≡ None
+no_such_colours : command_of false (codes "lint" ∷ codes "--color" ∷ codes "yes" ∷ codes "a" ∷ []) ≡ None
 unfolding clap_on_literals
 no_such_colours = refl
 
-no_such_format : command_of (codes "lint" ∷ codes "--format" ∷ codes "xml" ∷ codes "a" ∷ []) ≡ None
+no_such_format : command_of false (codes "lint" ∷ codes "--format" ∷ codes "xml" ∷ codes "a" ∷ []) ≡ None
 unfolding clap_on_literals
 no_such_format = refl
 
-codes_to_ignore : command_of (codes "lint" ∷ codes "--ignore" ∷ codes "untranslated" ∷ codes "a" ∷ codes "--ignore=no-value" ∷ [])
+codes_to_ignore : command_of false (codes "lint" ∷ codes "--ignore" ∷ codes "untranslated" ∷ codes "a" ∷ codes "--ignore=no-value" ∷ [])
     ≡ Some (lint (record {
       references = [];
       functions = [];
@@ -139,49 +149,49 @@ codes_to_ignore : command_of (codes "lint" ∷ codes "--ignore" ∷ codes "untra
 unfolding clap_on_literals
 codes_to_ignore = refl
 
-no_such_code : command_of (codes "lint" ∷ codes "--ignore" ∷ codes "untranslated" ∷ codes "--ignore" ∷ codes "value" ∷ codes "a" ∷ []) ≡ None
+no_such_code : command_of false (codes "lint" ∷ codes "--ignore" ∷ codes "untranslated" ∷ codes "--ignore" ∷ codes "value" ∷ codes "a" ∷ []) ≡ None
 unfolding clap_on_literals
 no_such_code = refl
 
-counts_of_a_reference : command_of (codes "lint" ∷ codes "--counts" ∷ codes "--reference" ∷ codes "r" ∷ codes "a" ∷ [])
+counts_of_a_reference : command_of false (codes "lint" ∷ codes "--counts" ∷ codes "--reference" ∷ codes "r" ∷ codes "a" ∷ [])
     ≡ Some (lint (record { references = codes "r" ∷ []; functions = []; ignored = []; locale = None; notes = false; counts = true; strict = false; format = text; files = codes "a" ∷ [] }))
 unfolding clap_on_literals
 counts_of_a_reference = refl
 
-counts_of_nothing : command_of (codes "lint" ∷ codes "--counts" ∷ codes "a" ∷ []) ≡ None
+counts_of_nothing : command_of false (codes "lint" ∷ codes "--counts" ∷ codes "a" ∷ []) ≡ None
 unfolding clap_on_literals
 counts_of_nothing = refl
 
-a_name_with_signs : command_of (codes "lint" ∷ codes "--function" ∷ codes "A_1-B" ∷ codes "a" ∷ [])
+a_name_with_signs : command_of false (codes "lint" ∷ codes "--function" ∷ codes "A_1-B" ∷ codes "a" ∷ [])
     ≡ Some (lint (record { references = []; functions = codes "A_1-B" ∷ []; ignored = []; locale = None; notes = false; counts = false; strict = false; format = text; files = codes "a" ∷ [] }))
 unfolding clap_on_literals
 a_name_with_signs = refl
 
-small_letters : command_of (codes "lint" ∷ codes "--function" ∷ codes "DATETIMe" ∷ codes "a" ∷ []) ≡ None
+small_letters : command_of false (codes "lint" ∷ codes "--function" ∷ codes "DATETIMe" ∷ codes "a" ∷ []) ≡ None
 unfolding clap_on_literals
 small_letters = refl
 
-a_digit_first : command_of (codes "lint" ∷ codes "--function" ∷ codes "F" ∷ codes "--function" ∷ codes "1F" ∷ codes "a" ∷ []) ≡ None
+a_digit_first : command_of false (codes "lint" ∷ codes "--function" ∷ codes "F" ∷ codes "--function" ∷ codes "1F" ∷ codes "a" ∷ []) ≡ None
 unfolding clap_on_literals
 a_digit_first = refl
 
-no_name : command_of (codes "lint" ∷ codes "--function=" ∷ codes "a" ∷ []) ≡ None
+no_name : command_of false (codes "lint" ∷ codes "--function=" ∷ codes "a" ∷ []) ≡ None
 unfolding clap_on_literals
 no_name = refl
 
-files_to_check : command_of (codes "tidy" ∷ codes "--check" ∷ codes "." ∷ []) ≡ Some (tidy_files (record { check = true; paths = codes "." ∷ [] }))
+files_to_check : command_of false (codes "tidy" ∷ codes "--check" ∷ codes "." ∷ []) ≡ Some (tidy_files (record { check = true; paths = codes "." ∷ [] }))
 unfolding clap_on_literals
 files_to_check = refl
 
-input_to_tidy : command_of (codes "tidy" ∷ codes "-" ∷ []) ≡ Some (tidy_input false)
+input_to_tidy : command_of false (codes "tidy" ∷ codes "-" ∷ []) ≡ Some (tidy_input false)
 unfolding clap_on_literals
 input_to_tidy = refl
 
-input_to_check : command_of (codes "tidy" ∷ codes "-" ∷ codes "--check" ∷ []) ≡ Some (tidy_input true)
+input_to_check : command_of false (codes "tidy" ∷ codes "-" ∷ codes "--check" ∷ []) ≡ Some (tidy_input true)
 unfolding clap_on_literals
 input_to_check = refl
 
-a_hyphen_among_files : command_of (codes "tidy" ∷ codes "a" ∷ codes "-" ∷ [])
+a_hyphen_among_files : command_of false (codes "tidy" ∷ codes "a" ∷ codes "-" ∷ [])
     ≡ Some (tidy_files (record { check = false; paths = codes "a" ∷ codes "-" ∷ [] }))
 unfolding clap_on_literals
 a_hyphen_among_files = refl

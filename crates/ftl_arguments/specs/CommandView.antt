@@ -1,8 +1,8 @@
 -- What the code's commands stand for.
-use Rattle.std.specs.Prelude.{◌≡◌, List, Option, None, Some, option_copied, option_map, Result, IfErr, string_bytes}
+use Rattle.std.specs.Prelude.{◌≡◌, Bool, List, Option, None, Some, option_copied, option_map, Result, IfErr, string_bytes}
 use Rattle.std.specs.Global.{Vec}
 use denote.Ref.{Bor}
-use Rattle.clap.specs.Words.{Row, Text, found_of, rows_of}
+use Rattle.clap.specs.Words.{Row, Text, found_of, rows_of, subcommand_rows_of}
 use Rattle.clap.specs.declared.error.kind.ErrorKind.{ErrorKind}
 use Rattle.clap.specs.declared.error.kind.ErrorKind.TheVariants.{DisplayHelp, DisplayVersion}
 use Rattle.clap.specs.declared.parser.matches.ArgMatches.{ArgMatches}
@@ -10,7 +10,7 @@ use Rattle.fluent_serve.specs.RequestView.{arguments_view}
 use Rattle.ftl_arguments.specs.Linting.{Lint}
 use Rattle.ftl_arguments.specs.TidyFiles.{TidyFiles}
 use Rattle.ftl_arguments.specs.Meaning as asked
-use Rattle.ftl_arguments.specs.Meaning.{AskForHelp, AskForVersion, Asked, Format, asked_by, command_of, texts, tidying_by}
+use Rattle.ftl_arguments.specs.Meaning.{AskForHelp, AskForVersion, Asked, Format, asked_by, asked_of, command_of, texts, tidying_by}
 use Rattle.ftl_arguments.specs.Version.{version_line}
 use Rattle.ftl_arguments.specs.declared.commands.Command.{Command}
 use Rattle.ftl_arguments.specs.declared.commands.Command.TheVariants as command
@@ -21,6 +21,8 @@ use Rattle.ftl_arguments.specs.declared.commands.Lint as linted
 use Rattle.ftl_arguments.specs.declared.commands.TidyFiles as files
 use Rattle.ftl_arguments.specs.declared.commands.Tidy.{Tidy}
 use Rattle.ftl_arguments.specs.declared.commands.Tidy.TheVariants as of
+use Rattle.ftl_arguments.specs.declared.errors.CommandError.{CommandError}
+use Rattle.ftl_arguments.specs.declared.errors.CommandError.TheVariants as why
 use Rattle.ftl_arguments.specs.declared.reading.WordsError.{WordsError}
 use Rattle.ftl_arguments.specs.declared.reading.WordsError.TheVariants.{Memory}
 use Rattle.lint_report.specs.Formats as report
@@ -78,10 +80,10 @@ command_view (command.TidyInput check) = asked.tidy_input check
 command_view (command.Tidy t) = asked.tidy (tidy_view t)
 
 -- The words ask for this: for a command, or for a text if they are none.
-abbrev pub AskFor : List Text → Invocation → Type 0
-AskFor words (invocation.Command command) = command_of words ≡ Some (command_view command)
-AskFor words (invocation.Help text) = (command_of words ≡ None) × AskForHelp words
-AskFor words (invocation.Version line) = (command_of words ≡ None) × (AskForVersion words × (string_bytes line ≡ version_line))
+abbrev pub AskFor : Bool → List Text → Invocation → Type 0
+AskFor colours words (invocation.Command command) = command_of colours words ≡ Some (command_view command)
+AskFor colours words (invocation.Help text) = (command_of colours words ≡ None) × AskForHelp words
+AskFor colours words (invocation.Version line) = (command_of colours words ≡ None) × (AskForVersion words × (string_bytes line ≡ version_line))
 
 -- an error of this kind stands for the text
 abbrev pub IsTextOf : ErrorKind → Invocation → Type 0
@@ -93,9 +95,13 @@ IsTextOf kind (invocation.Version line) = (kind ≡ DisplayVersion) × (string_b
 abbrev pub found_rows : ArgMatches → List Row
 found_rows found = rows_of (found_of found)
 
+-- what the command that was met asks for
+abbrev pub asked_in : Bool → ArgMatches → Option Asked
+asked_in colours matches = asked_of colours (subcommand_rows_of matches)
+
 -- what the command of a name asks for, with what was found for it
-abbrev pub asked_with : Text → ArgMatches → Option Asked
-asked_with name found = asked_by (name, found_rows found)
+abbrev pub asked_with : Bool → Text → ArgMatches → Option Asked
+asked_with colours name found = asked_by colours (name, found_rows found)
 
 -- and one that tidies
 abbrev pub tidying_with : Text → ArgMatches → Option Asked
@@ -104,3 +110,12 @@ tidying_with name found = tidying_by (name, found_rows found)
 -- the fact holds if the words were refused, and not for want of memory
 abbrev pub IfRefused : {T : Type 0} → Result T WordsError → Type 0 → Type 0
 IfRefused result Fact = IfErr result (λ error. ¬ (error ≡ Memory) → Fact)
+
+-- the words are no command, whatever is said of them
+abbrev pub IsBad : CommandError → Type 0
+IsBad why.Memory = ⊥
+IsBad (why.Bad advice) = Unit {0}
+
+-- the fact holds if they are none
+abbrev pub IfBad : {T : Type 0} → Result T CommandError → Type 0 → Type 0
+IfBad result Fact = IfErr result (λ error. IsBad error → Fact)

@@ -1,6 +1,7 @@
 -- What `lint` is asked for.
 use Rattle.std.specs.Prelude.{Bool, true, false, not, ◌&&◌, ◌||◌, if◌then◌else◌, List, [], ◌∷◌, Option, Some, None, option_map, option_and_then, codes}
 use Rattle.std.specs.List.{list_all, list_any}
+use Rattle.std.specs.Option.{option_map_or}
 use Rattle.std.specs.Str.{bytes_eq}
 use Rattle.clap.specs.Words.{Row, Text, first_of}
 use Rattle.fluent_grammar.specs.Words.{begins, is_callee_byte, is_capital}
@@ -76,7 +77,7 @@ format_named name =
 abbrev pub format_in : List Row → Option Format
 format_in rows = option_and_then format_named (first_of (codes "format") rows)
 
--- Whether the value of `--color` asks for colours. The program asks for them by itself on a terminal, in place of `auto`.
+-- Whether the value of `--color` asks for colours. `auto` leaves that to the screen.
 abbrev pub colours_named : Text → Option Bool
 colours_named name =
     if bytes_eq name (codes "auto") then Some false
@@ -123,3 +124,28 @@ is_sound rows = list_all is_code (ignored_in rows) && (list_all is_function_name
 -- With anything else nothing is asked for, nor with another format or choice of colours.
 abbrev pub lint_in : List Row → Option Lint
 lint_in rows = if is_sound rows then option_map (lint_with rows) (report_format_in rows) else None
+
+-- the value of `--color` leaves colours to the screen
+abbrev pub is_left_open : List Row → Bool
+is_left_open rows = option_map_or (λ s. bytes_eq s (codes "auto")) (first_of (codes "color") rows) false
+
+-- the same for a report in colours or not
+abbrev pub in_format : Format → Lint → Lint
+in_format report_format l = record {
+  references = l.references;
+  functions = l.functions;
+  ignored = l.ignored;
+  locale = l.locale;
+  notes = l.notes;
+  counts = l.counts;
+  strict = l.strict;
+  format = report_format;
+  files = l.files;
+}
+
+-- by what a screen shows, if the words leave that open
+abbrev pub shown_by : Bool → Lint → Lint
+shown_by colours l = in_format (format_by l.format colours) l
+
+abbrev pub lint_on : Bool → List Row → Option Lint
+lint_on colours rows = option_map (shown_by (colours && is_left_open rows)) (lint_in rows)

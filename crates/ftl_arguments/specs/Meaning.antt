@@ -7,7 +7,7 @@ use Rattle.clap.specs.declared.error.kind.ErrorKind.TheVariants.{DisplayHelp, Di
 use Rattle.fluent_serve.specs.Requests.{Request, request_of_parts}
 use Rattle.ftl_arguments.specs.Commands.{program_app}
 use Rattle.ftl_arguments.specs.Found.{is_given, values_in, locale_in, file_in, files_in}
-use Rattle.ftl_arguments.specs.Linting.{Lint, lint_in}
+use Rattle.ftl_arguments.specs.Linting.{Lint, lint_on}
 use Rattle.ftl_arguments.specs.TidyFiles.{TidyFiles, is_input, tidy_files_in}
 
 -- answer the request lines of standard input, from the sources in these files
@@ -109,19 +109,19 @@ tidying_by found =
     else if bytes_eq found.0 (codes "import") then on_file import found.1
     else None
 
--- any command
-abbrev pub asked_by : Text × List Row → Option Asked
-asked_by found =
+-- any command; `colours` says whether a screen shows the report of `lint` in colours
+abbrev pub asked_by : Bool → Text × List Row → Option Asked
+asked_by colours found =
     if bytes_eq found.0 (codes "run") then Some (run (run_in found.1))
     else if bytes_eq found.0 (codes "format") then option_map format (format_in found.1)
     else if bytes_eq found.0 (codes "check") then Some (check (files_in found.1))
-    else if bytes_eq found.0 (codes "lint") then option_map linting (lint_in found.1)
+    else if bytes_eq found.0 (codes "lint") then option_map linting (lint_on colours found.1)
     else if bytes_eq found.0 (codes "tidy") then Some (tidy_in (tidy_files_in found.1))
     else tidying_by found
 
-abbrev pub asked_of : Option (Text × List Row) → Option Asked
-asked_of None = None
-asked_of (Some found) = asked_by found
+abbrev pub asked_of : Bool → Option (Text × List Row) → Option Asked
+asked_of colours None = None
+asked_of colours (Some found) = asked_by colours found
 
 -- ---- words
 
@@ -134,8 +134,8 @@ without_faults [] asked = asked
 without_faults (k ∷ ks) asked = None
 
 -- what the words ask for, if nothing is wrong with them
-abbrev pub command_of : List Text → Option Asked
-command_of words = without_faults (faults_of words) (asked_of (subcommand_of program_app words))
+abbrev pub command_of : Bool → List Text → Option Asked
+command_of colours words = without_faults (faults_of words) (asked_of colours (subcommand_of program_app words))
 
 abbrev pub AskForHelp : List Text → Type 0
 AskForHelp words = IsAmong DisplayHelp (faults_of words)

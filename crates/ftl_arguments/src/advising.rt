@@ -1,11 +1,9 @@
 //! What is wrong with command-line arguments, in words.
 
 use crate::elsewhere::meant_by;
-use crate::program::program;
-use crate::reading::{WordsError, command};
 use crate::refusals::Refused;
-use clap::Error;
 use clap::error::ErrorKind;
+use clap::{ArgMatches, Error};
 use std::alloc::{AllocError, Global};
 
 /// The commands that have help of their own.
@@ -22,47 +20,28 @@ const COMMANDS: [&str; 10] = [
     "import",
 ];
 
-/// A line that says what is wrong with command-line arguments, and where help is. `None` if nothing is.
-///
-/// ```no_run
-/// if let Some(line) = advice(alloc, &["lnit", "a.ftl"])? {
-///     eprint!(rt; "{line}")?; // ftl: no command 'lnit'; did you mean 'lint'? see ftl --help
-/// }
-/// ```
-///
-/// # Errors
-/// [`AllocError`] if memory runs out; nothing is kept.
-pub fn advice<'words>(
-    alloc: Global,
-    words: &'words [&'words str],
-) -> Result<Option<String>, AllocError> {
-    if !are_bad(alloc, words) {
-        return Ok(None);
-    }
+/// A line that says what the program refuses of what `clap` found, and where help is. `None` if
+/// memory runs out.
+pub(crate) fn advice_on(alloc: Global, words: &[&str], matches: &ArgMatches<'_>) -> Option<String> {
+    let reason = match Refused::of(matches) {
+        Some(refused) => refused.reason(alloc).ok()?,
+        None => String::from_str(alloc, "that isn't understood;").ok()?,
+    };
+    advice(alloc, words, reason.as_str()).ok()
+}
+
+/// A line that says what `clap` refuses of command-line arguments, and where help is. `None` if
+/// memory runs out.
+pub(crate) fn advice_by(alloc: Global, words: &[&str], error: &Error) -> Option<String> {
+    let (_, command) = command_named(words);
+    let reason = reason_of(alloc, error, command).ok()?;
+    advice(alloc, words, reason.as_str()).ok()
+}
+
+/// The line of a reason.
+fn advice(alloc: Global, words: &[&str], reason: &str) -> Result<String, AllocError> {
     let (space, command) = command_named(words);
-    let reason = reason(alloc, words, command)?;
-    let line = format!(in alloc; "ftl: {reason} see ftl{space}{command} --help\n")?;
-    Ok(Some(line))
-}
-
-/// Whether the arguments are no command, and no request for help or for the version.
-fn are_bad<'words>(alloc: Global, words: &'words [&'words str]) -> bool {
-    matches!(command(alloc, words), Err(WordsError::Bad))
-}
-
-/// Why they aren't.
-fn reason<'words>(
-    alloc: Global,
-    words: &'words [&'words str],
-    command: &str,
-) -> Result<String, AllocError> {
-    match program(alloc)?.try_get_matches_from(words) {
-        Ok(matches) => match Refused::of(&matches) {
-            Some(refused) => refused.reason(alloc),
-            None => String::from_str(alloc, "that isn't understood;"),
-        },
-        Err(error) => reason_of(alloc, &error, command),
-    }
+    format!(in alloc; "ftl: {reason} see ftl{space}{command} --help\n")
 }
 
 /// The reason that an error of `clap` gives.

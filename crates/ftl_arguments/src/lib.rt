@@ -1,9 +1,11 @@
 //! The command-line arguments of the program `ftl`, read by `clap`.
 //!
-//! [`command`] returns what the arguments ask for, an [`Invocation`]: a [`Command`], help or the version.
+//! [`command`] returns what the arguments ask for, an [`Invocation`]: a [`Command`], help or the
+//! version. If they ask for nothing, a [`CommandError`] says what is wrong with them.
 #![tactic(auto)]
 
 mod advising;
+mod colours;
 mod commands;
 mod elsewhere;
 mod errors;
@@ -15,8 +17,8 @@ mod refusals;
 mod tidying;
 mod version;
 
-pub use advising::advice;
 pub use commands::{Command, Format, Invocation, Lint, Tidy, TidyFiles};
+pub use errors::CommandError;
 pub use lint_report::Format as ReportFormat;
-pub use reading::{WordsError, command};
+pub use reading::command;
 pub use version::VERSION;

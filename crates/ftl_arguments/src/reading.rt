@@ -1,15 +1,18 @@
 //! From words to what they ask for.
 ghost use Rattle.std.specs.Prelude.{◌≡◌, IfOk, IfErr, IsErrOf, Some, None, option_map};
-ghost use Rattle.clap.specs.Words.{kind_of, subcommand_rows_of};
-ghost use Rattle.ftl_arguments.specs.Meaning.{AskForHelpAlone, AskForVersionAlone, asked_of, command_of, texts};
+ghost use Rattle.clap.specs.Words.{kind_of};
+ghost use Rattle.ftl_arguments.specs.Meaning.{AskForHelpAlone, AskForVersionAlone, command_of, texts};
 ghost use Rattle.ftl_arguments.specs.Found.{file_in, files_in, is_given, locale_in, values_in};
-ghost use Rattle.ftl_arguments.specs.CommandView.{AskFor, IfRefused, IsTextOf};
-ghost use Rattle.ftl_arguments.specs.CommandView.{asked_with, command_view, found_rows, tidying_with};
+ghost use Rattle.ftl_arguments.specs.CommandView.{AskFor, IfBad, IfRefused, IsTextOf};
+ghost use Rattle.ftl_arguments.specs.CommandView.{asked_in, asked_with, command_view, found_rows, tidying_with};
 ghost use Rattle.ftl_arguments.specs.declared.reading.WordsError.TheVariants.{Memory};
 
+use crate::advising::{advice_by, advice_on};
+use crate::colours::lint_on;
 use crate::commands::{Command, Invocation, Tidy};
+use crate::errors::CommandError;
 use crate::formatting::format_in;
-use crate::linting::{lint_in, linting};
+use crate::linting::linting;
 use crate::program::program;
 use crate::tidying::tidy_in;
 use crate::version::version_line;
@@ -17,12 +20,12 @@ use clap::error::ErrorKind;
 use clap::{ArgMatches, Error};
 use std::alloc::{AllocError, Global};
 
-/// Why command-line arguments ask for nothing.
+/// Why what `clap` found for a command is none.
 #[derive(Debug, PartialEq, Eq, Drop)]
-pub enum WordsError {
+pub(crate) enum WordsError {
     /// Memory ran out.
     Memory,
-    /// They are no command of the program, and no request for help or for the version.
+    /// The program lets less pass than `clap` does.
     Bad,
 }
 
@@ -34,42 +37,78 @@ impl From<AllocError> for WordsError {
     }
 }
 
-/// Reads the command-line arguments: a command, its options and its files, as `clap` has them, or a request for help or for
-/// the version.
+/// Reads the command-line arguments: a command, its options and its files, as `clap` has them, or a
+/// request for help or for the version. `colours` says whether a screen shows the report of `lint`
+/// in colours, if the arguments leave that open.
+///
+/// ```no_run
+/// match command(alloc, &["lnit", "a.ftl"], false) {
+///     Err(CommandError::Bad { advice: Some(line) }) => eprint!(rt; "{line}")?,
+///     _ => {} // ftl: no command 'lnit'; did you mean 'lint'? see ftl --help
+/// }
+/// ```
 ///
 /// # Errors
-/// [`WordsError::Bad`]: the arguments are neither. [`WordsError::Memory`]: memory ran out.
+/// [`CommandError::Bad`]: the arguments are neither. [`CommandError::Memory`]: memory ran out.
 pub fn command<'words>(
     alloc: Global,
     words: &'words [&'words str],
-) -> Result<Invocation<'words>, WordsError>
-    ensures asked { IfOk result (AskFor (texts words.now)) }
-    ensures nothing { IfRefused result (command_of (texts words.now) ≡ None) }
-    ensures not_help { IsErrOf result WordsError.Bad → ¬ AskForHelpAlone (texts words.now) }
-    ensures not_version { IsErrOf result WordsError.Bad
-        → ¬ AskForVersionAlone (texts words.now) }
+    colours: bool,
+) -> Result<Invocation<'words>, CommandError>
+    ensures asked { IfOk result (AskFor colours (texts words.now)) }
+    ensures nothing { IfBad result (command_of colours (texts words.now) ≡ None) }
+    ensures not_help { IfBad result (¬ AskForHelpAlone (texts words.now)) }
+    ensures not_version { IfBad result (¬ AskForVersionAlone (texts words.now)) }
 {
     match program(alloc)?.try_get_matches_from(words) {
-        Ok(matches) => Ok(Invocation::Command(command_met(alloc, &matches)?)),
-        Err(error) => text_asked(alloc, &error),
+        Ok(matches) => {
+            let command = command_or_advice(alloc, words, &matches, colours)?;
+            Ok(Invocation::Command(command))
+        }
+        Err(error) => text_asked(alloc, words, &error),
     }
 }
 
 /// The text that an error of `clap` stands for: of help, or of the version.
-fn text_asked<'words>(alloc: Global, error: &Error) -> Result<Invocation<'words>, WordsError>
+fn text_asked<'words>(
+    alloc: Global,
+    words: &[&str],
+    error: &Error,
+) -> Result<Invocation<'words>, CommandError>
     ensures text { IfOk result (IsTextOf (kind_of error.now)) }
     ensures memory { kind_of error.now ≡ ErrorKind.OutOfMemory
-        → IsErrOf result WordsError.Memory }
-    ensures not_help { IsErrOf result WordsError.Bad
-        → ¬ (kind_of error.now ≡ ErrorKind.DisplayHelp) }
-    ensures not_version { IsErrOf result WordsError.Bad
-        → ¬ (kind_of error.now ≡ ErrorKind.DisplayVersion) }
+        → IsErrOf result CommandError.Memory }
+    ensures not_help { IfBad result (¬ (kind_of error.now ≡ ErrorKind.DisplayHelp)) }
+    ensures not_version { IfBad result (¬ (kind_of error.now ≡ ErrorKind.DisplayVersion)) }
 {
     match error.kind() {
-        ErrorKind::OutOfMemory => Err(WordsError::Memory),
+        ErrorKind::OutOfMemory => Err(CommandError::Memory),
         ErrorKind::DisplayHelp => Ok(Invocation::Help(error.to_string(alloc)?)),
         ErrorKind::DisplayVersion => Ok(Invocation::Version(version_line(alloc)?)),
-        _ => Err(WordsError::Bad),
+        _ => Err(CommandError::Bad {
+            advice: advice_by(alloc, words, error),
+        }),
+    }
+}
+
+/// The command that was met, or what is wrong with it.
+fn command_or_advice<'words>(
+    alloc: Global,
+    words: &[&str],
+    matches: &ArgMatches<'words>,
+    colours: bool,
+) -> Result<Command<'words>, CommandError>
+    ensures command { IfOk result (λ command.
+        asked_in colours matches.now ≡ Some (command_view command)) }
+    ensures nothing { IfBad result
+        (asked_in colours matches.now ≡ None) }
+{
+    match command_met(alloc, matches, colours) {
+        Ok(command) => Ok(command),
+        Err(WordsError::Memory) => Err(CommandError::Memory),
+        Err(WordsError::Bad) => Err(CommandError::Bad {
+            advice: advice_on(alloc, words, matches),
+        }),
     }
 }
 
@@ -77,13 +116,15 @@ fn text_asked<'words>(alloc: Global, error: &Error) -> Result<Invocation<'words>
 fn command_met<'words>(
     alloc: Global,
     matches: &ArgMatches<'words>,
+    colours: bool,
 ) -> Result<Command<'words>, WordsError>
     ensures command { IfOk result (λ command.
-        asked_of (subcommand_rows_of matches.now) ≡ Some (command_view command)) }
-    ensures nothing { IfRefused result (asked_of (subcommand_rows_of matches.now) ≡ None) }
+        asked_in colours matches.now ≡ Some (command_view command)) }
+    ensures nothing { IfRefused result
+        (asked_in colours matches.now ≡ None) }
 {
     match matches.subcommand() {
-        Some((name, found)) => command_named(alloc, name, found),
+        Some((name, found)) => command_named(alloc, name, found, colours),
         None => Err(WordsError::Bad),
     }
 }
@@ -93,10 +134,11 @@ fn command_named<'words>(
     alloc: Global,
     name: &str,
     found: &ArgMatches<'words>,
+    colours: bool,
 ) -> Result<Command<'words>, WordsError>
     ensures command { IfOk result (λ command.
-        asked_with name.now found.now ≡ Some (command_view command)) }
-    ensures nothing { IfRefused result (asked_with name.now found.now ≡ None) }
+        asked_with colours name.now found.now ≡ Some (command_view command)) }
+    ensures nothing { IfRefused result (asked_with colours name.now found.now ≡ None) }
 {
     match name {
         "run" => Ok(Command::Run {
@@ -110,7 +152,7 @@ fn command_named<'words>(
         "check" => Ok(Command::Check {
             files: files_in(alloc, found)?,
         }),
-        "lint" => Ok(linting(lint_in(alloc, found)?)),
+        "lint" => Ok(linting(lint_on(alloc, found, colours)?)),
         "tidy" => Ok(tidy_in(alloc, found)?),
         _ => tidying_named(alloc, name, found),
     }

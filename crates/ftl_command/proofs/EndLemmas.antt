@@ -1,13 +1,15 @@
 -- What devices tell of a run of the program, and when words are refused.
-use Rattle.std.proofs.Common.{◌≡◌, ◌∙◌, ℕ, List, [], ◌∷◌, Option, None, Some, Result, IfErr, ap, option_map, refl, string_bytes, sym, inl, inr}
+use Rattle.std.proofs.Common.{◌≡◌, ◌∙◌, ℕ, Bool, List, [], ◌∷◌, Option, None, Some, Result, Ok, Err, IfErr, ap, option_map, string_bytes, sym, inl, inr}
 use Rattle.std.specs.Global.{Global}
 use Rattle.std.specs.Prelude.{String}
 use Rattle.fluent_serve.specs.Text.{Text}
 use Rattle.fluent_serve.proofs.Outcomes.{on_ok_always}
 use Rattle.fluent_serve.specs.declared.stream.Sink.{Ghosts as SinkGhosts}
-use Rattle.ftl_arguments.specs.CommandView.{AskFor, command_view}
+use Rattle.ftl_arguments.specs.CommandView.{AskFor, IsBad, command_view}
 use Rattle.ftl_arguments.specs.Commands.{program_app}
 use Rattle.ftl_arguments.specs.Version.{version_line}
+use Rattle.ftl_arguments.specs.declared.errors.CommandError.{CommandError}
+use Rattle.ftl_arguments.specs.declared.errors.CommandError.TheVariants as why
 use Rattle.ftl_arguments.specs.declared.commands.Command.{Command}
 use Rattle.ftl_arguments.specs.declared.commands.Invocation.{Invocation}
 use Rattle.ftl_arguments.specs.declared.commands.Invocation.TheVariants as of
@@ -16,8 +18,8 @@ use Rattle.clap.specs.declared.error.kind.ErrorKind.{ErrorKind}
 use Rattle.clap.specs.declared.error.kind.ErrorKind.TheVariants.{DisplayHelp, DisplayVersion}
 use Rattle.ftl_arguments.specs.Meaning.{AskForHelp, AskForText, AskForVersion, AskForVersionAlone, Asked, asked_of, command_of, faults_of, without_faults, run, format, check, lint, lint_input, tidy_files, tidy_input, tidy}
 use Rattle.ftl_command.specs.Ends.{seen, IsUntouched}
-use Rattle.ftl_command.specs.Faults.{SaysUnknown, status_of}
-use Rattle.ftl_command.proofs.RunLemmas.{other_by}
+use Rattle.ftl_command.specs.Faults.{IsBadLine, SaysUnknown, status_of}
+use Rattle.std.proofs.lemmas.Result.{IfErr-weaker}
 use Rattle.ftl_command.specs.Program.{IsRefused, ShowsVersionOn, WithoutInput, locale_named}
 use Rattle.ftl_command.specs.Refusals.{AnswersHelp}
 use Rattle.ftl_command.specs.declared.ended.Ended.{Ended}
@@ -55,50 +57,50 @@ refused_run (Some (tidy_input checked)) tag named unknown = absurd cc
 refused_run (Some (tidy t)) tag named unknown = absurd cc
 
 -- words with status 2 are refused
-pub refused_by : (asked : Option Asked) (fault : Fault) → (fault ≡ CommandLine → asked ≡ None) → SaysUnknown (locale_named asked) fault → status_of fault ≡ 2 → IsRefused asked
-refused_by asked CarriageReturn bad says is = absurd cc
-refused_by asked NotNormal bad says is = absurd cc
+pub refused_by : (asked : Option Asked) (fault : Fault) → (IsBadLine fault → asked ≡ None) → SaysUnknown (locale_named asked) fault → status_of fault ≡ 2 → IsRefused asked
+refused_by asked (CarriageReturn place) bad says is = absurd cc
+refused_by asked (NotNormal report) bad says is = absurd cc
 refused_by asked NotTree bad says is = absurd cc
 refused_by asked NotJson bad says is = absurd cc
-refused_by asked NoMessage bad says is = absurd cc
-refused_by asked CommandLine bad says is = rw (bad refl) tt
+refused_by asked (NoMessage meant) bad says is = absurd cc
+refused_by asked (CommandLine advice) bad says is = rw (bad tt) tt
 refused_by asked (UnknownLocale tag) bad says is = refused_run asked tag.now says.0 says.1
-refused_by asked (FileUnreadable file) bad says is = absurd cc
-refused_by asked (FileNotUtf8 file) bad says is = absurd cc
+refused_by asked (FileUnreadable file why meant) bad says is = absurd cc
+refused_by asked (FileNotUtf8 file row) bad says is = absurd cc
 refused_by asked Input bad says is = absurd cc
 refused_by asked Output bad says is = absurd cc
 refused_by asked Memory bad says is = absurd cc
 
 -- with a fault of the words nothing is asked for
-pub nothing_asked : (words : List Text) (kind : ErrorKind) → faults_of words ≡ kind ∷ [] → command_of words ≡ None
-nothing_asked words kind alone = ap (λ kinds. without_faults kinds (asked_of (subcommand_of program_app words))) alone
+pub nothing_asked : (colours : Bool) (words : List Text) (kind : ErrorKind) → faults_of words ≡ kind ∷ [] → command_of colours words ≡ None
+nothing_asked colours words kind alone = ap (λ kinds. without_faults kinds (asked_of colours (subcommand_of program_app words))) alone
 
 -- so no locale is named
-no_locale_named : (words : List Text) (kind : ErrorKind) (tag : Text) → faults_of words ≡ kind ∷ [] → locale_named (command_of words) ≡ Some tag → ⊥
-no_locale_named words kind tag alone named =
-    let both : ◌≡◌ {A = Option Text} None (Some tag) = sym (ap locale_named (nothing_asked words kind alone)) ∙ named in
+no_locale_named : (colours : Bool) (words : List Text) (kind : ErrorKind) (tag : Text) → faults_of words ≡ kind ∷ [] → locale_named (command_of colours words) ≡ Some tag → ⊥
+no_locale_named colours words kind tag alone named =
+    let both : ◌≡◌ {A = Option Text} None (Some tag) = sym (ap locale_named (nothing_asked colours words kind alone)) ∙ named in
     absurd cc
 
 -- words with status 2 are no request for help alone, or for the version alone
-pub not_alone_by : (words : List Text) (kind : ErrorKind) (fault : Fault) → (fault ≡ CommandLine → faults_of words ≡ kind ∷ [] → ⊥) →
-    SaysUnknown (locale_named (command_of words)) fault → status_of fault ≡ 2 → faults_of words ≡ kind ∷ [] → ⊥
-not_alone_by words kind CarriageReturn bad says is alone = absurd cc
-not_alone_by words kind NotNormal bad says is alone = absurd cc
-not_alone_by words kind NotTree bad says is alone = absurd cc
-not_alone_by words kind NotJson bad says is alone = absurd cc
-not_alone_by words kind NoMessage bad says is alone = absurd cc
-not_alone_by words kind CommandLine bad says is alone = bad refl alone
-not_alone_by words kind (UnknownLocale tag) bad says is alone = no_locale_named words kind tag.now alone says.0
-not_alone_by words kind (FileUnreadable file) bad says is alone = absurd cc
-not_alone_by words kind (FileNotUtf8 file) bad says is alone = absurd cc
-not_alone_by words kind Input bad says is alone = absurd cc
-not_alone_by words kind Output bad says is alone = absurd cc
-not_alone_by words kind Memory bad says is alone = absurd cc
+pub not_alone_by : (colours : Bool) (words : List Text) (kind : ErrorKind) (fault : Fault) → (IsBadLine fault → faults_of words ≡ kind ∷ [] → ⊥) →
+    SaysUnknown (locale_named (command_of colours words)) fault → status_of fault ≡ 2 → faults_of words ≡ kind ∷ [] → ⊥
+not_alone_by colours words kind (CarriageReturn place) bad says is alone = absurd cc
+not_alone_by colours words kind (NotNormal report) bad says is alone = absurd cc
+not_alone_by colours words kind NotTree bad says is alone = absurd cc
+not_alone_by colours words kind NotJson bad says is alone = absurd cc
+not_alone_by colours words kind (NoMessage meant) bad says is alone = absurd cc
+not_alone_by colours words kind (CommandLine advice) bad says is alone = bad tt alone
+not_alone_by colours words kind (UnknownLocale tag) bad says is alone = no_locale_named colours words kind tag.now alone says.0
+not_alone_by colours words kind (FileUnreadable file why meant) bad says is alone = absurd cc
+not_alone_by colours words kind (FileNotUtf8 file row) bad says is alone = absurd cc
+not_alone_by colours words kind Input bad says is alone = absurd cc
+not_alone_by colours words kind Output bad says is alone = absurd cc
+not_alone_by colours words kind Memory bad says is alone = absurd cc
 
 -- words that ask for one of the texts alone name no command
-pub no_command_asked : (words : List Text) (kind : ErrorKind) (asked : Asked) → faults_of words ≡ kind ∷ [] → command_of words ≡ Some asked → ⊥
-no_command_asked words kind asked alone named =
-    let both : ◌≡◌ {A = Option Asked} None (Some asked) = sym (nothing_asked words kind alone) ∙ named in
+pub no_command_asked : (colours : Bool) (words : List Text) (kind : ErrorKind) (asked : Asked) → faults_of words ≡ kind ∷ [] → command_of colours words ≡ Some asked → ⊥
+no_command_asked colours words kind asked alone named =
+    let both : ◌≡◌ {A = Option Asked} None (Some asked) = sym (nothing_asked colours words kind alone) ∙ named in
     absurd cc
 
 -- words that ask for the version alone ask for no help
@@ -109,37 +111,45 @@ no_help_asked words alone help = one (rw alone at help)
     one (inl same) = absurd cc
     one (inr none) = absurd none
 
-module _ (words : List Text) {invocation : Invocation} where
+-- the words are no command
+pub is_bad : {error : CommandError} {advice : Option (String Global)} → error ≡ why.Bad advice → IsBad error
+is_bad is = rw is tt
+
+module _ (colours : Bool) (words : List Text) {invocation : Invocation} where
   -- the words ask for a command
-  pub asked_command : {command : Command} → invocation ≡ of.Command command → AskFor words invocation → command_of words ≡ Some (command_view command)
+  pub asked_command : {command : Command} → invocation ≡ of.Command command → AskFor colours words invocation → command_of colours words ≡ Some (command_view command)
   asked_command is asked = rw is at asked
 
   -- or for help
-  pub asked_help : {text : String Global} → invocation ≡ of.Help text → AskFor words invocation → (command_of words ≡ None) × AskForHelp words
+  pub asked_help : {text : String Global} → invocation ≡ of.Help text → AskFor colours words invocation → (command_of colours words ≡ None) × AskForHelp words
   asked_help is asked = rw is at asked
 
   -- or for the version, which is this line
-  pub asked_version : {line : String Global} → invocation ≡ of.Version line → AskFor words invocation →
-      (command_of words ≡ None) × (AskForVersion words × (string_bytes line ≡ version_line))
+  pub asked_version : {line : String Global} → invocation ≡ of.Version line → AskFor colours words invocation →
+      (command_of colours words ≡ None) × (AskForVersion words × (string_bytes line ≡ version_line))
   asked_version is asked = rw is at asked
 
+on_err_always : {T E : Type 0} {P : E → Type 0} (result : Result T E) → ((error : E) → P error) → IfErr result P
+on_err_always (Ok x) p = tt
+on_err_always (Err error) p = p error
+
 -- a command is no text that words ask for
-pub command_helps : {W : Type 0} (sink : SinkGhosts W) (writer writer' : W) (words : List Text) (asked : Asked) (result : Result Ended Fault) →
-    command_of words ≡ Some asked → AnswersHelp sink writer writer' words result
-command_helps sink writer writer' words asked result named = record {
+pub command_helps : {W : Type 0} (sink : SinkGhosts W) (writer writer' : W) (colours : Bool) (words : List Text) (asked : Asked) (result : Result Ended Fault) →
+    command_of colours words ≡ Some asked → AnswersHelp sink writer writer' colours words result
+command_helps sink writer writer' colours words asked result named = record {
   text = on_ok_always result (λ none. let both : ◌≡◌ {A = Option Asked} None (Some asked) = sym none ∙ named in absurd cc);
-  version = λ alone. absurd (no_command_asked words DisplayVersion asked alone named);
-  not_help = λ is alone. no_command_asked words DisplayHelp asked alone named;
-  not_version = λ is alone. no_command_asked words DisplayVersion asked alone named;
+  version = λ alone. absurd (no_command_asked colours words DisplayVersion asked alone named);
+  not_help = on_err_always result (λ fault bad alone. no_command_asked colours words DisplayHelp asked alone named);
+  not_version = on_err_always result (λ fault bad alone. no_command_asked colours words DisplayVersion asked alone named);
 }
 
 -- a text is written that the words ask for
-pub text_helps : {W : Type 0} (sink : SinkGhosts W) (writer writer' : W) (words : List Text) (result : Result Ended Fault) →
+pub text_helps : {W : Type 0} (sink : SinkGhosts W) (writer writer' : W) (colours : Bool) (words : List Text) (result : Result Ended Fault) →
     AskForText words → (AskForVersionAlone words → ShowsVersionOn sink writer writer' result) → IfErr result (λ fault. fault ≡ Output) →
-    AnswersHelp sink writer writer' words result
-text_helps sink writer writer' words result asked shows fault = record {
+    AnswersHelp sink writer writer' colours words result
+text_helps sink writer writer' colours words result asked shows fault = record {
   text = on_ok_always result (λ none. asked);
   version = shows;
-  not_help = λ is. absurd (other_by result CommandLine is (λ same. absurd cc) fault);
-  not_version = λ is. absurd (other_by result CommandLine is (λ same. absurd cc) fault);
+  not_help = IfErr-weaker result _ _ (λ f is bad. absurd (rw is at bad)) fault;
+  not_version = IfErr-weaker result _ _ (λ f is bad. absurd (rw is at bad)) fault;
 }

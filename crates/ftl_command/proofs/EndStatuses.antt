@@ -65,8 +65,8 @@ refused_end contents d (Some (tidy_input checked)) end done two =
 refused_end contents d (Some (tidy t)) end done two = absurd (done_isnt end done.0 two)
 
 -- words that ask for one of the texts alone don't end so
-pub not_alone_end : (contents : Text → Option Text) (d : Devices) (words : List Text) (kind : ErrorKind) (end : Ended) → IsDone contents d (command_of words) end →
+pub not_alone_end : (contents : Text → Option Text) (d : Devices) (colours : Bool) (words : List Text) (kind : ErrorKind) (end : Ended) → IsDone contents d (command_of colours words) end →
     end_status end ≡ 2 → faults_of words ≡ kind ∷ [] → ⊥
-not_alone_end contents d words kind end done two alone =
-    let shown : IsDone contents d None end = subst (λ asked. IsDone contents d asked end) (nothing_asked words kind alone) done in
+not_alone_end contents d colours words kind end done two alone =
+    let shown : IsDone contents d None end = subst (λ asked. IsDone contents d asked end) (nothing_asked colours words kind alone) done in
     done_isnt end shown two

@@ -1,11 +1,12 @@
 -- What the text of a message has come to.
-use Rattle.std.proofs.Common.{◌≡◌, ◌∙◌, List, [], ◌∷◌, Option, None, Some, IfErr, IfOk, IsSomeAnd, ap, ok_or, option_map, refl, subst}
+use Rattle.std.proofs.Common.{◌≡◌, ◌∙◌, List, [], ◌∷◌, Option, None, Some, IsSomeAnd, ap, option_map, refl, subst}
+use Rattle.std.specs.Global.{Global}
+use Rattle.std.specs.Prelude.{String}
 use Rattle.std.specs.Io.KnownBytes.{Appends}
 use Rattle.std.specs.List.{flat_map}
 use Rattle.fluent_serve.specs.Text.{Text}
 use Rattle.fluent_serve.specs.Frames.{Reply, ended}
 use Rattle.ftl_command.specs.Shown.{Shown, error_line, shown}
-use Rattle.ftl_command.specs.declared.message.Formatted.{Formatted}
 use Rattle.ftl_arguments.specs.Meaning.{Format, format}
 use Rattle.ftl_command.specs.Faults.{end_status}
 use Rattle.ftl_command.specs.Plurals.{rules_asked}
@@ -37,18 +38,12 @@ nothing_shown : (found : Option Reply) → None ≡ option_map shown found → f
 nothing_shown None is = refl
 nothing_shown (Some reply) is = absurd cc
 
--- what is written is what was found
-pub found_or_not : (contents : Text → Option Text) (f : Format) (written : Option Formatted) → IsFound contents f written →
-    IfOk (ok_or written NoMessage) (λ formatted. IsFound contents f (Some formatted))
-found_or_not contents f None found = tt
-found_or_not contents f (Some formatted) found = found
-
--- or there is no such message
-pub not_found : {F : Type 0} (folders : FolderGhosts F) (before after : F) (f : Format) (written : Option Formatted) → folders.failures after ≡ folders.failures before →
-    IsFound (folders.contents before) f written → IfErr (ok_or written NoMessage) (IsEarlyFault folders before after (format f))
-not_found folders before after f None same found =
-    of_refusal folders before after (format f) NoMessage tt same (on_found (folders.contents before) f (λ o is. nothing_shown o is) found)
-not_found folders before after f (Some formatted) same found = tt
+-- there is no such message
+pub not_found : {F : Type 0} (folders : FolderGhosts F) (before after : F) (f : Format) (meant : Option (String Global)) →
+    folders.failures after ≡ folders.failures before → IsFound (folders.contents before) f None →
+    IsEarlyFault folders before after (format f) (NoMessage meant)
+not_found folders before after f meant same found =
+    of_refusal folders before after (format f) (NoMessage meant) tt same (on_found (folders.contents before) f (λ o is. nothing_shown o is) found)
 
 -- there are lines where there are errors
 status_same : (errors : List Text) → status_by (flat_map error_line errors) ≡ status_by errors

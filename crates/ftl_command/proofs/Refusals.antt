@@ -1,5 +1,7 @@
 -- What is so of a fault, by how it came.
 use Rattle.std.proofs.Common.{◌≡◌, ◌≢◌, ◌⊎◌, Bool, Option, None, Some, Result, Ok, Err, IfErr, OnErr, OnOk, inl, inr, refl}
+use Rattle.std.specs.Global.{Global}
+use Rattle.std.specs.Prelude.{String}
 use Rattle.std.proofs.lemmas.Result.{IfErr-weaker, on_ok_weaker}
 use Rattle.fluent_serve.proofs.Outcomes.{on_ok_always}
 use Rattle.fluent_serve.specs.Text.{Text}
@@ -18,7 +20,7 @@ use Rattle.fluent_tidy.specs.declared.error.NormalizeError.{NormalizeError}
 use Rattle.fluent_tidy.specs.declared.error.NormalizeError.TheVariants as normalize
 use Rattle.fluent_tidy.specs.declared.error.ImportError.{ImportError}
 use Rattle.fluent_tidy.specs.declared.error.ImportError.TheVariants as import
-use Rattle.ftl_command.specs.Faults.{IsBeforeInput, IsFaultOfFiles, IsOfLocale, SaysOfFiles, SaysUnknown, clean_fault, import_fault, normalize_fault, run_fault}
+use Rattle.ftl_command.specs.Faults.{IsBadLine, IsBeforeInput, IsCleanFault, IsFaultOfFiles, IsNormalizeFault, IsOfLocale, SaysOfFiles, SaysReturn, SaysUnknown, import_fault, run_fault}
 use Rattle.ftl_command.specs.Program.{UnlessListed, files_named, locale_named}
 use Rattle.ftl_command.specs.Refusals.{DevicesEnd, HaveNoNormalText, HoldNoTree, HoldReturn, IsDeviceFault, IsEarlyFault, IsFaultOf, IsOfStreams, IsReadFault, IsRight, IsRightOf, IsTextFault, RefusesNothing, SaysNoMessage, TextWorks}
 use Rattle.ftl_command.specs.declared.fault.Fault.{Fault}
@@ -29,12 +31,12 @@ use Rattle.ftl_files.specs.declared.folder.Folder.{Ghosts as FolderGhosts}
 
 module _ (contents : Text → Option Text) where
   nothing_of_message : (f : Format) (fault : Fault) → RefusesNothing fault → SaysNoMessage contents f fault
-  nothing_of_message f NoMessage nothing = absurd nothing
+  nothing_of_message f (NoMessage meant) nothing = absurd nothing
   nothing_of_message f fault nothing = nothing
 
   nothing_of_tidying : (t : Tidy) (fault : Fault) → RefusesNothing fault → IsRightOf contents t fault
-  nothing_of_tidying t CarriageReturn nothing = absurd nothing
-  nothing_of_tidying t NotNormal nothing = absurd nothing
+  nothing_of_tidying t (CarriageReturn place) nothing = absurd nothing
+  nothing_of_tidying t (NotNormal report) nothing = absurd nothing
   nothing_of_tidying t NotTree nothing = absurd nothing
   nothing_of_tidying t NotJson nothing = absurd nothing
   nothing_of_tidying t fault nothing = nothing
@@ -73,16 +75,16 @@ IsOfDevice fault = ⊥
 of_device : {F : Type 0} (folders : FolderGhosts F) (before after : F) (asked : Option Asked) (fault : Fault) → IsOfDevice fault →
     folders.failures after ≡ folders.failures before → IsFaultOf folders before after asked fault
 of_device folders before after asked Input of same =
-    record { refused = λ is. absurd cc; unknown = tt; unopened = λ of. absurd of; files = of_any asked (record { reached = tt; not_utf8 = tt; unreadable = same }); right = right_by (folders.contents before) asked Input tt }
+    record { refused = λ is. absurd is; unknown = tt; unopened = λ of. absurd of; files = of_any asked (record { reached = tt; not_utf8 = tt; unreadable = same }); right = right_by (folders.contents before) asked Input tt }
 of_device folders before after asked Output of same =
-    record { refused = λ is. absurd cc; unknown = tt; unopened = λ of. absurd of; files = of_any asked (record { reached = tt; not_utf8 = tt; unreadable = same }); right = right_by (folders.contents before) asked Output tt }
+    record { refused = λ is. absurd is; unknown = tt; unopened = λ of. absurd of; files = of_any asked (record { reached = tt; not_utf8 = tt; unreadable = same }); right = right_by (folders.contents before) asked Output tt }
 of_device folders before after asked Memory of same =
-    record { refused = λ is. absurd cc; unknown = tt; unopened = λ of. absurd of; files = of_any asked (record { reached = tt; not_utf8 = tt; unreadable = same }); right = right_by (folders.contents before) asked Memory tt }
+    record { refused = λ is. absurd is; unknown = tt; unopened = λ of. absurd of; files = of_any asked (record { reached = tt; not_utf8 = tt; unreadable = same }); right = right_by (folders.contents before) asked Memory tt }
 of_device folders before after asked fault of same = absurd of
 
 module _ {F : Type 0} (folders : FolderGhosts F) (before after : F) (asked : Asked) where
   -- a fault that names neither a locale nor a file
-  pub nameless : (fault : Fault) → fault ≢ CommandLine → fault ≢ Input → fault ≢ Output → SaysUnknown (locale_named (Some asked)) fault →
+  pub nameless : (fault : Fault) → (IsBadLine fault → ⊥) → fault ≢ Input → fault ≢ Output → SaysUnknown (locale_named (Some asked)) fault →
       (IsOfLocale fault → ⊥) → SaysOfFiles (state_of folders before) (state_of folders after) (files_named (Some asked)) fault → IsRight (folders.contents before) (Some asked) fault →
       IsEarlyFault folders before after asked fault
   nameless fault not_words not_input not_output unknown not_locale files right = record {
@@ -92,12 +94,12 @@ module _ {F : Type 0} (folders : FolderGhosts F) (before after : F) (asked : Ask
   }
 
   pub of_files : (fault : Fault) → IsFaultOfFiles folders before after (files_named (Some asked)) fault → IsEarlyFault folders before after asked fault
-  of_files (FileUnreadable file) f =
-      nameless (FileUnreadable file) (λ is. absurd cc) (λ is. absurd cc) (λ is. absurd cc) tt (λ of. of) f.says (right_by (folders.contents before) (Some asked) (FileUnreadable file) tt)
-  of_files (FileNotUtf8 file) f =
-      nameless (FileNotUtf8 file) (λ is. absurd cc) (λ is. absurd cc) (λ is. absurd cc) tt (λ of. of) f.says (right_by (folders.contents before) (Some asked) (FileNotUtf8 file) tt)
+  of_files (FileUnreadable file why meant) f =
+      nameless (FileUnreadable file why meant) (λ is. is) (λ is. absurd cc) (λ is. absurd cc) tt (λ of. of) f.says (right_by (folders.contents before) (Some asked) (FileUnreadable file why meant) tt)
+  of_files (FileNotUtf8 file row) f =
+      nameless (FileNotUtf8 file row) (λ is. is) (λ is. absurd cc) (λ is. absurd cc) tt (λ of. of) f.says (right_by (folders.contents before) (Some asked) (FileNotUtf8 file row) tt)
   of_files Memory f =
-      nameless Memory (λ is. absurd cc) (λ is. absurd cc) (λ is. absurd cc) tt (λ of. of) f.says (right_by (folders.contents before) (Some asked) Memory tt)
+      nameless Memory (λ is. is) (λ is. absurd cc) (λ is. absurd cc) tt (λ of. of) f.says (right_by (folders.contents before) (Some asked) Memory tt)
   of_files fault f = absurd f.of_files
 
   pub of_memory : folders.failures after ≡ folders.failures before → IsEarlyFault folders before after asked Memory
@@ -108,7 +110,7 @@ pub of_locale : {F : Type 0} (folders : FolderGhosts F) (folder : F) (asked : As
     IsEarlyFault folders folder folder asked fault
 of_locale folders folder asked (UnknownLocale tag) of unknown = record {
   says = record {
-    refused = λ is. absurd cc;
+    refused = λ is. absurd is;
     unknown = unknown;
     unopened = λ of. refl;
     files = of_any (Some asked) (record { reached = tt; not_utf8 = tt; unreadable = refl });
@@ -121,43 +123,48 @@ of_locale folders folder asked fault of unknown = absurd of
 
 -- there is no such message, or the files are not tidied
 abbrev IsRefusal : Fault → Type 0
-IsRefusal CarriageReturn = Unit {0}
-IsRefusal NotNormal = Unit {0}
+IsRefusal (CarriageReturn place) = Unit {0}
+IsRefusal (NotNormal report) = Unit {0}
 IsRefusal NotTree = Unit {0}
 IsRefusal NotJson = Unit {0}
-IsRefusal NoMessage = Unit {0}
+IsRefusal (NoMessage meant) = Unit {0}
 IsRefusal fault = ⊥
 
 pub of_refusal : {F : Type 0} (folders : FolderGhosts F) (before after : F) (asked : Asked) (fault : Fault) → IsRefusal fault → folders.failures after ≡ folders.failures before →
     IsRight (folders.contents before) (Some asked) fault → IsEarlyFault folders before after asked fault
-of_refusal folders before after asked CarriageReturn of same right =
-    nameless folders before after asked CarriageReturn (λ is. absurd cc) (λ is. absurd cc) (λ is. absurd cc) tt (λ of. of) (record { reached = tt; not_utf8 = tt; unreadable = same }) right
-of_refusal folders before after asked NotNormal of same right =
-    nameless folders before after asked NotNormal (λ is. absurd cc) (λ is. absurd cc) (λ is. absurd cc) tt (λ of. of) (record { reached = tt; not_utf8 = tt; unreadable = same }) right
+of_refusal folders before after asked (CarriageReturn place) of same right =
+    nameless folders before after asked (CarriageReturn place) (λ is. is) (λ is. absurd cc) (λ is. absurd cc) tt (λ of. of) (record { reached = tt; not_utf8 = tt; unreadable = same }) right
+of_refusal folders before after asked (NotNormal report) of same right =
+    nameless folders before after asked (NotNormal report) (λ is. is) (λ is. absurd cc) (λ is. absurd cc) tt (λ of. of) (record { reached = tt; not_utf8 = tt; unreadable = same }) right
 of_refusal folders before after asked NotTree of same right =
-    nameless folders before after asked NotTree (λ is. absurd cc) (λ is. absurd cc) (λ is. absurd cc) tt (λ of. of) (record { reached = tt; not_utf8 = tt; unreadable = same }) right
+    nameless folders before after asked NotTree (λ is. is) (λ is. absurd cc) (λ is. absurd cc) tt (λ of. of) (record { reached = tt; not_utf8 = tt; unreadable = same }) right
 of_refusal folders before after asked NotJson of same right =
-    nameless folders before after asked NotJson (λ is. absurd cc) (λ is. absurd cc) (λ is. absurd cc) tt (λ of. of) (record { reached = tt; not_utf8 = tt; unreadable = same }) right
-of_refusal folders before after asked NoMessage of same right =
-    nameless folders before after asked NoMessage (λ is. absurd cc) (λ is. absurd cc) (λ is. absurd cc) tt (λ of. of) (record { reached = tt; not_utf8 = tt; unreadable = same }) right
+    nameless folders before after asked NotJson (λ is. is) (λ is. absurd cc) (λ is. absurd cc) tt (λ of. of) (record { reached = tt; not_utf8 = tt; unreadable = same }) right
+of_refusal folders before after asked (NoMessage meant) of same right =
+    nameless folders before after asked (NoMessage meant) (λ is. is) (λ is. absurd cc) (λ is. absurd cc) tt (λ of. of) (record { reached = tt; not_utf8 = tt; unreadable = same }) right
 of_refusal folders before after asked fault of same right = absurd of
 
 module _ {F : Type 0} (folders : FolderGhosts F) (before after : F) (t : Tidy) (same : folders.failures after ≡ folders.failures before) where
   -- refusals of the engine
-  pub of_clean : (error : CleanError) → (error ≡ clean.CarriageReturn → HoldReturn (folders.contents before) t) → IsEarlyFault folders before after (tidy t) (clean_fault error)
-  of_clean clean.Memory right = of_memory folders before after (tidy t) same
-  of_clean clean.CarriageReturn right = of_refusal folders before after (tidy t) CarriageReturn tt same (right refl)
+  of_return : (fault : Fault) → SaysReturn fault → HoldReturn (folders.contents before) t → IsEarlyFault folders before after (tidy t) fault
+  of_return fault says right = rw says.is (of_refusal folders before after (tidy t) (CarriageReturn says.place) tt same right)
 
-  pub of_normalize : (error : NormalizeError) → (error ≡ normalize.CarriageReturn → HoldReturn (folders.contents before) t) →
-      (error ≡ normalize.NotNormal → HaveNoNormalText (folders.contents before) t) → IsEarlyFault folders before after (tidy t) (normalize_fault error)
-  of_normalize normalize.Memory right none = of_memory folders before after (tidy t) same
-  of_normalize normalize.CarriageReturn right none = of_refusal folders before after (tidy t) CarriageReturn tt same (right refl)
-  of_normalize normalize.NotNormal right none = of_refusal folders before after (tidy t) NotNormal tt same (none refl)
+  pub of_clean : (error : CleanError) (fault : Fault) → IsCleanFault error fault → (error ≡ clean.CarriageReturn → HoldReturn (folders.contents before) t) →
+      IsEarlyFault folders before after (tidy t) fault
+  of_clean clean.Memory fault is right = rw is (of_memory folders before after (tidy t) same)
+  of_clean clean.CarriageReturn fault is right = of_return fault is (right refl)
+
+  pub of_normalize : (error : NormalizeError) (fault : Fault) → IsNormalizeFault error fault →
+      (error ≡ normalize.CarriageReturn → HoldReturn (folders.contents before) t) →
+      (error ≡ normalize.NotNormal → HaveNoNormalText (folders.contents before) t) → IsEarlyFault folders before after (tidy t) fault
+  of_normalize normalize.Memory fault is right none = rw is (of_memory folders before after (tidy t) same)
+  of_normalize normalize.CarriageReturn fault is right none = of_return fault is (right refl)
+  of_normalize normalize.NotNormal fault is right none = rw is.is (of_refusal folders before after (tidy t) (NotNormal is.report) tt same (none refl))
 
   pub of_import : (error : ImportError) → (error ≡ import.NotNormal → HaveNoNormalText (folders.contents before) t) →
       (error ≡ import.Shape → HoldNoTree (folders.contents before) t) → IsEarlyFault folders before after (tidy t) (import_fault error)
   of_import import.Memory none shape = of_memory folders before after (tidy t) same
-  of_import import.NotNormal none shape = of_refusal folders before after (tidy t) NotNormal tt same (none refl)
+  of_import import.NotNormal none shape = of_refusal folders before after (tidy t) (NotNormal None) tt same (none refl)
   of_import import.Shape none shape = of_refusal folders before after (tidy t) NotTree tt same (shape refl)
 
 -- what the output's fault says, after all files were read
@@ -234,13 +241,14 @@ pub of_words : {F : Type 0} (folders : FolderGhosts F) (folder : F) (asked : Opt
 of_words folders folder asked = of_device folders folder folder asked Memory tt refl
 
 -- the words are bad, and ask for nothing
-pub of_bad_words : {F : Type 0} (folders : FolderGhosts F) (folder : F) (asked : Option Asked) → asked ≡ None → IsFaultOf folders folder folder asked CommandLine
-of_bad_words folders folder asked nothing = record {
+pub of_bad_words : {F : Type 0} (folders : FolderGhosts F) (folder : F) (asked : Option Asked) (advice : Option (String Global)) → asked ≡ None →
+    IsFaultOf folders folder folder asked (CommandLine advice)
+of_bad_words folders folder asked advice nothing = record {
   refused = λ is. nothing;
   unknown = tt;
   unopened = λ of. absurd of;
   files = of_any asked (record { reached = tt; not_utf8 = tt; unreadable = refl });
-  right = right_by (folders.contents folder) asked CommandLine tt;
+  right = right_by (folders.contents folder) asked (CommandLine advice) tt;
 }
 
 -- ---- what became of the devices
@@ -289,8 +297,8 @@ IsOfListed fault = (fault ≡ Memory) ⊎ (fault ≡ Output)
 
 module _ {F : Type 0} (folders : FolderGhosts F) (before after : F) (t : TidyFiles) where
   in_place_fault : (fault : Fault) → IsOfListed fault → IsFaultOf folders before after (Some (tidy_files t)) fault
-  in_place_fault fault (inl is) = rw is (record { refused = λ bad. absurd cc; unknown = tt; unopened = λ of. absurd of; files = tt; right = tt })
-  in_place_fault fault (inr is) = rw is (record { refused = λ bad. absurd cc; unknown = tt; unopened = λ of. absurd of; files = tt; right = tt })
+  in_place_fault fault (inl is) = rw is (record { refused = λ bad. absurd bad; unknown = tt; unopened = λ of. absurd of; files = tt; right = tt })
+  in_place_fault fault (inr is) = rw is (record { refused = λ bad. absurd bad; unknown = tt; unopened = λ of. absurd of; files = tt; right = tt })
 
   -- their names were written
   pub in_place_devices : {R W : Type 0} (source : SourceGhosts R) (sink : SinkGhosts W) (reader : R) (writer writer' : W) (result : Result Ended Fault) →
@@ -329,8 +337,8 @@ module _ {F : Type 0} (folders : FolderGhosts F) (folder : F) (checked : Bool) w
 
 module _ {F : Type 0} (folders : FolderGhosts F) (before after : F) (l : Lint) where
   lint_fault : (fault : Fault) → IsOfListed fault → IsFaultOf folders before after (Some (lint l)) fault
-  lint_fault fault (inl is) = rw is (record { refused = λ bad. absurd cc; unknown = tt; unopened = λ of. absurd of; files = tt; right = tt })
-  lint_fault fault (inr is) = rw is (record { refused = λ bad. absurd cc; unknown = tt; unopened = λ of. absurd of; files = tt; right = tt })
+  lint_fault fault (inl is) = rw is (record { refused = λ bad. absurd bad; unknown = tt; unopened = λ of. absurd of; files = tt; right = tt })
+  lint_fault fault (inr is) = rw is (record { refused = λ bad. absurd bad; unknown = tt; unopened = λ of. absurd of; files = tt; right = tt })
 
   pub lint_output : (fault : Fault) → fault ≡ Output → IsFaultOf folders before after (Some (lint l)) fault
   lint_output fault is = lint_fault fault (inr is)

@@ -43,3 +43,11 @@ on_err_map (Err e) f p = f p
 -- the pieces of a line
 pub line_of : (name text whole : Text) → name ++ text ≡ whole → codes "ftl: " ++ (name ++ (text ++ line_feed ∷ [])) ≡ codes "ftl: " ++ (whole ++ line_feed ∷ [])
 line_of name text whole is = ap (λ s. codes "ftl: " ++ s) (sym (append_assoc name text (line_feed ∷ [])) ∙ ap (λ t. t ++ line_feed ∷ []) is)
+
+-- what was cut is a front of more, too
+pub front_of_more : (held now : Option Text) (piece rest : Text) → WritesFront held now piece → WritesFront held now (piece ++ rest)
+front_of_more held now piece rest p = record {
+  given = p.given;
+  written = p.written;
+  front = record { back = p.front.back ++ rest; split = ap (λ s. s ++ rest) p.front.split ∙ append_assoc p.given p.front.back rest };
+}

@@ -1,5 +1,5 @@
 -- How the program ends, by what is known of its devices.
-use Rattle.std.specs.Prelude.{◌≡◌, ◌⊎◌, ℕ, List, Option, None, Result, Ok, Err, IfOk, OnOk, IfErr, IsErrOf, string_bytes}
+use Rattle.std.specs.Prelude.{◌≡◌, ◌⊎◌, ℕ, Bool, List, Option, None, Result, Ok, Err, IfOk, OnOk, IfErr, IsErrOf, string_bytes}
 use Rattle.std.specs.Io.KnownBytes.{Appends}
 use Rattle.fluent_serve.specs.Text.{Text}
 use Rattle.fluent_serve.specs.Devices.{HasFailed}
@@ -10,12 +10,14 @@ use Rattle.ftl_arguments.specs.Meaning.{AskForText, AskForHelpAlone, AskForVersi
 use Rattle.ftl_command.specs.declared.ended.Ended.{Ended}
 use Rattle.ftl_command.specs.declared.ended.Ended.TheVariants.{Done, Found, Incomplete, NoFile, Partial, OutOfMemory}
 use Rattle.ftl_command.specs.declared.fault.Fault.{Fault}
-use Rattle.ftl_command.specs.declared.fault.Fault.TheVariants.{CommandLine, Input, Output, Memory}
+use Rattle.ftl_command.specs.declared.fault.Fault.TheVariants.{Input, Output, Memory}
+use Rattle.ftl_command.specs.declared.terminals.Terminals.{Terminals}
 use Rattle.ftl_files.specs.Files.{State}
 use Rattle.ftl_files.specs.States.{state_of}
 use Rattle.ftl_files.specs.declared.folder.Folder.{Ghosts as FolderGhosts}
 use Rattle.ftl_command.specs.InPlace.{FilesEnd}
-use Rattle.ftl_command.specs.Faults.{outcome_status, fault_line, SaysOfFiles, SaysUnknown, IsBeforeInput}
+use Rattle.ftl_command.specs.Faults.{outcome_status, fault_line, IsBadLine, IsBeforeInput, IsShownReason, SaysOfFiles, SaysUnknown, said}
+use Rattle.ftl_command.specs.Terminals.{explains}
 use Rattle.ftl_command.specs.Program.{IsDone, AfterMemory, AfterInput, AfterOutput, WithoutInput, UnlessListed, ShowsVersion, WritesFront, files_named, locale_named}
 use Rattle.ftl_command.specs.Refusals.{IsRight}
 
@@ -57,47 +59,53 @@ ReportsErrors s (NoFile errors) = WritesOrFails s (string_bytes errors)
 ReportsErrors s (Partial errors) = WritesOrFails s (string_bytes errors)
 ReportsErrors s (OutOfMemory errors) = WritesOrFails s (string_bytes errors)
 
--- a fault is reported on one line, and nothing else is
-abbrev pub Reports : Seen → Result Ended Fault → Type 0
-Reports s (Ok end) = ReportsErrors s end
-Reports s (Err fault) = WritesOrFails s (fault_line fault)
+-- a fault is reported on one line, and after it what is shown of why it came
+pub record ReportsFault (shown : Bool) (s : Seen) (fault : Fault) : Type 0 where
+  pub reason : Text
+  pub right : IsShownReason shown fault reason
+  pub reports : WritesOrFails s (said fault reason)
+
+-- and nothing else is
+abbrev pub Reports : Bool → Seen → Result Ended Fault → Type 0
+Reports shown s (Ok end) = ReportsErrors s end
+Reports shown s (Err fault) = ReportsFault shown s fault
 
 -- The status, and the line of a fault, are those that the command results in; and these are right, by what is known of
 -- the files before and after.
-pub record Ends (before after : State) (input output faults : Seen) (words : List Text) (status : ℕ) : Type 0 where
+pub record Ends (before after : State) (input output faults : Seen) (screens : Terminals) (words : List Text) (status : ℕ) : Type 0 where
   pub outcome : Result Ended Fault
   pub exact : status ≡ outcome_status outcome
-  pub reports : Reports faults outcome
+  pub reports : Reports (explains screens words) faults outcome
   -- without a fault all is done
-  pub done : IfOk outcome (IsDone before.contents (exchanged input output) (command_of words))
-  pub text : OnOk outcome (command_of words ≡ None → AskForText words)
+  pub done : IfOk outcome (IsDone before.contents (exchanged input output) (command_of screens.colours words))
+  pub text : OnOk outcome (command_of screens.colours words ≡ None → AskForText words)
   pub version : AskForVersionAlone words → ShowsVersion output.before output.after outcome
-  pub opens : OnOk outcome (UnlessListed (command_of words) (after.failures ≡ before.failures))
+  pub opens : OnOk outcome (UnlessListed (command_of screens.colours words) (after.failures ≡ before.failures))
   pub reads : OnOk outcome (Works input)
   pub writes : OnOk outcome (Works output)
   -- files that are tidied in place hold their tidy texts, and no other changes; a catalog that is linted is that of the files
-  pub of_files : FilesEnd (command_of words) before after (exchanged input output) outcome
-  pub no_input : WithoutInput (command_of words) (IsUntouched input)
+  pub of_files : FilesEnd (command_of screens.colours words) before after (exchanged input output) outcome
+  pub no_input : WithoutInput (command_of screens.colours words) (IsUntouched input)
   -- what a fault says is so, and before the words and all files are read nothing else is read or written
-  pub refused : IsErrOf outcome CommandLine → command_of words ≡ None
-  pub not_help : IsErrOf outcome CommandLine → AskForHelpAlone words → ⊥
-  pub not_version : IsErrOf outcome CommandLine → AskForVersionAlone words → ⊥
-  pub unknown : IfErr outcome (SaysUnknown (locale_named (command_of words)))
-  pub files : IfErr outcome (λ fault. UnlessListed (command_of words) (SaysOfFiles before after (files_named (command_of words)) fault))
-  pub right : IfErr outcome (IsRight before.contents (command_of words))
+  pub refused : IfErr outcome (λ fault. IsBadLine fault → command_of screens.colours words ≡ None)
+  pub not_help : IfErr outcome (λ fault. IsBadLine fault → AskForHelpAlone words → ⊥)
+  pub not_version : IfErr outcome (λ fault. IsBadLine fault → AskForVersionAlone words → ⊥)
+  pub unknown : IfErr outcome (SaysUnknown (locale_named (command_of screens.colours words)))
+  pub files : IfErr outcome (λ fault. UnlessListed (command_of screens.colours words) (SaysOfFiles before after (files_named (command_of screens.colours words)) fault))
+  pub right : IfErr outcome (IsRight before.contents (command_of screens.colours words))
   pub unread : IfErr outcome (λ fault. IsBeforeInput fault → IsUntouched input)
   pub unwritten : IfErr outcome (λ fault. IsBeforeInput fault → IsUntouched output)
   -- what was written before another fault stays written
-  pub memory_out : IsErrOf outcome Memory → AfterMemory before.contents (exchanged input output) (command_of words)
-  pub input_failed : IsErrOf outcome Input → AfterInput before.contents (exchanged input output) (HasFailed input.failures_before input.failures_after) (command_of words)
-  pub output_cut : IsErrOf outcome Output → AfterOutput before.contents (exchanged input output) (command_of words)
+  pub memory_out : IsErrOf outcome Memory → AfterMemory before.contents (exchanged input output) (command_of screens.colours words)
+  pub input_failed : IsErrOf outcome Input → AfterInput before.contents (exchanged input output) (HasFailed input.failures_before input.failures_after) (command_of screens.colours words)
+  pub output_cut : IsErrOf outcome Output → AfterOutput before.contents (exchanged input output) (command_of screens.colours words)
   pub output_failed : IsErrOf outcome Output → HasFailed output.failures_before output.failures_after
 
 -- so it is on a folder, a reader and two writers, by what is known of them
-abbrev pub EndsOn : {F R W V : Type 0} → FolderGhosts F → F → F → SourceGhosts R → R → R → SinkGhosts W → W → W → SinkGhosts V → V → V → List Text → ℕ → Type 0
-EndsOn folders folder folder' source reader reader' sink writer writer' told faults faults' words status =
+abbrev pub EndsOn : {F R W V : Type 0} → FolderGhosts F → F → F → SourceGhosts R → R → R → SinkGhosts W → W → W → SinkGhosts V → V → V → Terminals → List Text → ℕ → Type 0
+EndsOn folders folder folder' source reader reader' sink writer writer' told faults faults' screens words status =
     Ends (state_of folders folder) (state_of folders folder') (seen source.remaining source.failures reader reader')
-    (seen sink.contents sink.failures writer writer') (seen told.contents told.failures faults faults') words status
+    (seen sink.contents sink.failures writer writer') (seen told.contents told.failures faults faults') screens words status
 
 -- the device begins with these bytes, and no call has failed yet
 abbrev pub Begins : Seen → Option Text → Type 0
@@ -108,7 +116,7 @@ abbrev pub nothing_known : State
 nothing_known = record { contents = λ _. None; sources = λ _. None; failures = 0 }
 
 -- The same over files of which nothing is known, and devices that are passed with these bytes.
-pub record EndsOver (left held reported : Option Text) (words : List Text) (status : ℕ) : Type 0 where
+pub record EndsOver (left held reported : Option Text) (screens : Terminals) (words : List Text) (status : ℕ) : Type 0 where
   pub files : State
   pub input : Seen
   pub output : Seen
@@ -116,7 +124,7 @@ pub record EndsOver (left held reported : Option Text) (words : List Text) (stat
   pub input_new : Begins input left
   pub output_new : Begins output held
   pub faults_new : Begins faults reported
-  pub ends : Ends nothing_known files input output faults words status
+  pub ends : Ends nothing_known files input output faults screens words status
 
 -- the line of a fault is reported on a device that is passed with these bytes
 pub record ReportsOver (reported : Option Text) (fault : Fault) : Type 0 where

@@ -1,14 +1,21 @@
 -- The program's faults, and the status that it ends with.
-use Rattle.std.specs.Prelude.{◌≡◌, ℕ, List, ◌++◌, Option, Some, None, IfSome, IsUtf8, Result, Ok, Err, codes}
+use Rattle.std.specs.Prelude.{◌≡◌, ◌⊎◌, ℕ, Bool, if◌then◌else◌, List, [], ◌++◌, Option, Some, None, IfSome, IsUtf8, Result, Ok, Err, String, codes, decimal, string_bytes}
+use Rattle.std.specs.Global.{Global}
+use Rattle.std.specs.Option.{option_map_or}
+use denote.Ref.{Bor}
 use Rattle.fluent_serve.specs.Text.{Text}
 use Rattle.fluent_serve.specs.Frames.{ended}
 use Rattle.fluent_serve.specs.Devices.{HasFailed}
 use Rattle.fluent_plurals.specs.Plurals.{plurals_for}
 use Rattle.ftl_command.specs.Files.{Reaches}
 use Rattle.ftl_files.specs.Files.{State}
+use Rattle.ftl_files.specs.Rows.{bad_row}
 use Rattle.ftl_files.specs.States.{state_of}
 use Rattle.ftl_files.specs.declared.folder.Folder.{Ghosts as FolderGhosts}
 use Rattle.ftl_command.specs.declared.fault.Fault.{Fault}
+use Rattle.ftl_command.specs.declared.fault.FilePlace.{FilePlace}
+use Rattle.ftl_command.specs.declared.fault.Meant.{Meant}
+use Rattle.ftl_command.specs.declared.fault.Meant.TheVariants as may_be
 use Rattle.ftl_command.specs.declared.fault.Fault.TheVariants.{CarriageReturn, NotNormal, NotTree, NotJson, NoMessage, CommandLine, UnknownLocale, FileUnreadable, FileNotUtf8, Input, Output, Memory}
 use Rattle.fluent_tidy.specs.declared.error.CleanError.{CleanError}
 use Rattle.fluent_tidy.specs.declared.error.CleanError.TheVariants as clean
@@ -33,15 +40,15 @@ end_status (OutOfMemory errors) = 4
 
 -- what can't be tidied is 1, bad words and an unknown locale are 2, what cannot be read or written is 3, and where memory runs out it is 4
 abbrev pub status_of : Fault → ℕ
-status_of CarriageReturn = 1
-status_of NotNormal = 1
+status_of (CarriageReturn place) = 1
+status_of (NotNormal report) = 1
 status_of NotTree = 1
 status_of NotJson = 1
-status_of NoMessage = 1
-status_of CommandLine = 2
+status_of (NoMessage meant) = 1
+status_of (CommandLine advice) = 2
 status_of (UnknownLocale tag) = 2
-status_of (FileUnreadable file) = 3
-status_of (FileNotUtf8 file) = 3
+status_of (FileUnreadable file why meant) = 3
+status_of (FileNotUtf8 file row) = 3
 status_of Input = 3
 status_of Output = 3
 status_of Memory = 4
@@ -53,15 +60,15 @@ outcome_status (Err fault) = status_of fault
 
 -- what is reported of a fault
 abbrev pub fault_text : Fault → Text
-fault_text CarriageReturn = codes "carriage return"
-fault_text NotNormal = codes "not normal"
+fault_text (CarriageReturn place) = codes "carriage return"
+fault_text (NotNormal report) = codes "not normal"
 fault_text NotTree = codes "not a tree"
 fault_text NotJson = codes "not JSON"
-fault_text NoMessage = codes "no such message"
-fault_text CommandLine = codes "bad command line"
+fault_text (NoMessage meant) = codes "no such message"
+fault_text (CommandLine advice) = codes "bad command line"
 fault_text (UnknownLocale tag) = tag.now ++ codes ": unknown locale"
-fault_text (FileUnreadable file) = file.now ++ codes ": cannot read"
-fault_text (FileNotUtf8 file) = file.now ++ codes ": not UTF-8"
+fault_text (FileUnreadable file why meant) = file.now ++ codes ": cannot read"
+fault_text (FileNotUtf8 file row) = file.now ++ codes ": not UTF-8"
 fault_text Input = codes "standard input: cannot read"
 fault_text Output = codes "standard output: cannot write"
 fault_text Memory = codes "out of memory"
@@ -70,107 +77,107 @@ fault_text Memory = codes "out of memory"
 abbrev pub fault_line : Fault → Text
 fault_line fault = ended (codes "ftl: " ++ fault_text fault)
 
--- if the failure says that a file isn't UTF-8, what the file holds is none, if that is known
+-- if the failure says that a file isn't UTF-8, what the file holds is none from that line on, if it is known
 abbrev pub SaysNoUtf8 : (Text → Option Text) → Fault → Type 0
-SaysNoUtf8 contents CarriageReturn = Unit {0}
-SaysNoUtf8 contents NotNormal = Unit {0}
+SaysNoUtf8 contents (CarriageReturn place) = Unit {0}
+SaysNoUtf8 contents (NotNormal report) = Unit {0}
 SaysNoUtf8 contents NotTree = Unit {0}
 SaysNoUtf8 contents NotJson = Unit {0}
-SaysNoUtf8 contents NoMessage = Unit {0}
-SaysNoUtf8 contents CommandLine = Unit {0}
+SaysNoUtf8 contents (NoMessage meant) = Unit {0}
+SaysNoUtf8 contents (CommandLine advice) = Unit {0}
 SaysNoUtf8 contents (UnknownLocale tag) = Unit {0}
-SaysNoUtf8 contents (FileUnreadable file) = Unit {0}
-SaysNoUtf8 contents (FileNotUtf8 file) = IfSome (contents file.now) (λ held. IsUtf8 held → ⊥)
+SaysNoUtf8 contents (FileUnreadable file why meant) = Unit {0}
+SaysNoUtf8 contents (FileNotUtf8 file row) = IfSome (contents file.now) (λ held. (IsUtf8 held → ⊥) × (row ≡ bad_row held))
 SaysNoUtf8 contents Input = Unit {0}
 SaysNoUtf8 contents Output = Unit {0}
 SaysNoUtf8 contents Memory = Unit {0}
 
 -- if the fault calls a locale unknown, it is this one, which has no plural rules
 abbrev pub SaysUnknown : Option Text → Fault → Type 0
-SaysUnknown locale CarriageReturn = Unit {0}
-SaysUnknown locale NotNormal = Unit {0}
+SaysUnknown locale (CarriageReturn place) = Unit {0}
+SaysUnknown locale (NotNormal report) = Unit {0}
 SaysUnknown locale NotTree = Unit {0}
 SaysUnknown locale NotJson = Unit {0}
-SaysUnknown locale NoMessage = Unit {0}
-SaysUnknown locale CommandLine = Unit {0}
+SaysUnknown locale (NoMessage meant) = Unit {0}
+SaysUnknown locale (CommandLine advice) = Unit {0}
 SaysUnknown locale (UnknownLocale tag) = (locale ≡ Some tag.now) × (plurals_for tag.now ≡ None)
-SaysUnknown locale (FileUnreadable file) = Unit {0}
-SaysUnknown locale (FileNotUtf8 file) = Unit {0}
+SaysUnknown locale (FileUnreadable file why meant) = Unit {0}
+SaysUnknown locale (FileNotUtf8 file row) = Unit {0}
 SaysUnknown locale Input = Unit {0}
 SaysUnknown locale Output = Unit {0}
 SaysUnknown locale Memory = Unit {0}
 
 -- a fault that comes while the locale is looked up
 abbrev pub IsOfLocale : Fault → Type 0
-IsOfLocale CarriageReturn = ⊥
-IsOfLocale NotNormal = ⊥
+IsOfLocale (CarriageReturn place) = ⊥
+IsOfLocale (NotNormal report) = ⊥
 IsOfLocale NotTree = ⊥
 IsOfLocale NotJson = ⊥
-IsOfLocale NoMessage = ⊥
-IsOfLocale CommandLine = ⊥
+IsOfLocale (NoMessage meant) = ⊥
+IsOfLocale (CommandLine advice) = ⊥
 IsOfLocale (UnknownLocale tag) = Unit {0}
-IsOfLocale (FileUnreadable file) = ⊥
-IsOfLocale (FileNotUtf8 file) = ⊥
+IsOfLocale (FileUnreadable file why meant) = ⊥
+IsOfLocale (FileNotUtf8 file row) = ⊥
 IsOfLocale Input = ⊥
 IsOfLocale Output = ⊥
 IsOfLocale Memory = ⊥
 
 -- the files in front of the one that the fault names are held, as texts
 abbrev pub ReachesFile : (Text → Option Text) → List Text → Fault → Type 0
-ReachesFile contents files CarriageReturn = Unit {0}
-ReachesFile contents files NotNormal = Unit {0}
+ReachesFile contents files (CarriageReturn place) = Unit {0}
+ReachesFile contents files (NotNormal report) = Unit {0}
 ReachesFile contents files NotTree = Unit {0}
 ReachesFile contents files NotJson = Unit {0}
-ReachesFile contents files NoMessage = Unit {0}
-ReachesFile contents files CommandLine = Unit {0}
+ReachesFile contents files (NoMessage meant) = Unit {0}
+ReachesFile contents files (CommandLine advice) = Unit {0}
 ReachesFile contents files (UnknownLocale tag) = Unit {0}
-ReachesFile contents files (FileUnreadable file) = Reaches contents files file.now
-ReachesFile contents files (FileNotUtf8 file) = Reaches contents files file.now
+ReachesFile contents files (FileUnreadable file why meant) = Reaches contents files file.now
+ReachesFile contents files (FileNotUtf8 file row) = Reaches contents files file.now
 ReachesFile contents files Input = Unit {0}
 ReachesFile contents files Output = Unit {0}
 ReachesFile contents files Memory = Unit {0}
 
 -- the folder's counts of failures before and after: a read has failed exactly if the fault says so
 abbrev pub FailsAsTold : ℕ → ℕ → Fault → Type 0
-FailsAsTold before after CarriageReturn = after ≡ before
-FailsAsTold before after NotNormal = after ≡ before
+FailsAsTold before after (CarriageReturn place) = after ≡ before
+FailsAsTold before after (NotNormal report) = after ≡ before
 FailsAsTold before after NotTree = after ≡ before
 FailsAsTold before after NotJson = after ≡ before
-FailsAsTold before after NoMessage = after ≡ before
-FailsAsTold before after CommandLine = after ≡ before
+FailsAsTold before after (NoMessage meant) = after ≡ before
+FailsAsTold before after (CommandLine advice) = after ≡ before
 FailsAsTold before after (UnknownLocale tag) = after ≡ before
-FailsAsTold before after (FileUnreadable file) = HasFailed before after
-FailsAsTold before after (FileNotUtf8 file) = after ≡ before
+FailsAsTold before after (FileUnreadable file why meant) = HasFailed before after
+FailsAsTold before after (FileNotUtf8 file row) = after ≡ before
 FailsAsTold before after Input = after ≡ before
 FailsAsTold before after Output = after ≡ before
 FailsAsTold before after Memory = after ≡ before
 
 -- a fault that comes while files are read
 abbrev pub IsOfFiles : Fault → Type 0
-IsOfFiles CarriageReturn = ⊥
-IsOfFiles NotNormal = ⊥
+IsOfFiles (CarriageReturn place) = ⊥
+IsOfFiles (NotNormal report) = ⊥
 IsOfFiles NotTree = ⊥
 IsOfFiles NotJson = ⊥
-IsOfFiles NoMessage = ⊥
-IsOfFiles CommandLine = ⊥
+IsOfFiles (NoMessage meant) = ⊥
+IsOfFiles (CommandLine advice) = ⊥
 IsOfFiles (UnknownLocale tag) = ⊥
-IsOfFiles (FileUnreadable file) = Unit {0}
-IsOfFiles (FileNotUtf8 file) = Unit {0}
+IsOfFiles (FileUnreadable file why meant) = Unit {0}
+IsOfFiles (FileNotUtf8 file row) = Unit {0}
 IsOfFiles Input = ⊥
 IsOfFiles Output = ⊥
 IsOfFiles Memory = Unit {0}
 
 -- the words or the sources are at fault
 abbrev pub IsBeforeInput : Fault → Type 0
-IsBeforeInput CarriageReturn = Unit {0}
-IsBeforeInput NotNormal = Unit {0}
+IsBeforeInput (CarriageReturn place) = Unit {0}
+IsBeforeInput (NotNormal report) = Unit {0}
 IsBeforeInput NotTree = Unit {0}
 IsBeforeInput NotJson = Unit {0}
-IsBeforeInput NoMessage = Unit {0}
-IsBeforeInput CommandLine = Unit {0}
+IsBeforeInput (NoMessage meant) = Unit {0}
+IsBeforeInput (CommandLine advice) = Unit {0}
 IsBeforeInput (UnknownLocale tag) = Unit {0}
-IsBeforeInput (FileUnreadable file) = Unit {0}
-IsBeforeInput (FileNotUtf8 file) = Unit {0}
+IsBeforeInput (FileUnreadable file why meant) = Unit {0}
+IsBeforeInput (FileNotUtf8 file row) = Unit {0}
 IsBeforeInput Input = ⊥
 IsBeforeInput Output = ⊥
 IsBeforeInput Memory = ⊥
@@ -194,17 +201,106 @@ run_fault RunMemory = Memory
 run_fault RunRead = Input
 run_fault RunWrite = Output
 
--- what the engine's refusals are reported as
-abbrev pub clean_fault : CleanError → Fault
-clean_fault clean.Memory = Memory
-clean_fault clean.CarriageReturn = CarriageReturn
+-- ---- what the engine's refusals are reported as
 
-abbrev pub normalize_fault : NormalizeError → Fault
-normalize_fault normalize.Memory = Memory
-normalize_fault normalize.CarriageReturn = CarriageReturn
-normalize_fault normalize.NotNormal = NotNormal
+-- a source holds a carriage return, wherever that is
+pub record SaysReturn (fault : Fault) : Type 0 where
+  pub place : Option FilePlace
+  pub is : fault ≡ CarriageReturn place
+
+-- a source has no normal text, whatever is said of it
+pub record SaysNotNormal (fault : Fault) : Type 0 where
+  pub report : Option (String Global)
+  pub is : fault ≡ NotNormal report
+
+abbrev pub IsCleanFault : CleanError → Fault → Type 0
+IsCleanFault clean.Memory fault = fault ≡ Memory
+IsCleanFault clean.CarriageReturn fault = SaysReturn fault
+
+abbrev pub IsNormalizeFault : NormalizeError → Fault → Type 0
+IsNormalizeFault normalize.Memory fault = fault ≡ Memory
+IsNormalizeFault normalize.CarriageReturn fault = SaysReturn fault
+IsNormalizeFault normalize.NotNormal fault = SaysNotNormal fault
 
 abbrev pub import_fault : ImportError → Fault
 import_fault import.Memory = Memory
-import_fault import.NotNormal = NotNormal
+import_fault import.NotNormal = NotNormal None
 import_fault import.Shape = NotTree
+
+-- ---- why it came
+
+-- the words are no command, whatever is said of them
+abbrev pub IsBadLine : Fault → Type 0
+IsBadLine (CarriageReturn place) = ⊥
+IsBadLine (NotNormal report) = ⊥
+IsBadLine NotTree = ⊥
+IsBadLine NotJson = ⊥
+IsBadLine (NoMessage meant) = ⊥
+IsBadLine (CommandLine advice) = Unit {0}
+IsBadLine (UnknownLocale tag) = ⊥
+IsBadLine (FileUnreadable file why meant) = ⊥
+IsBadLine (FileNotUtf8 file row) = ⊥
+IsBadLine Input = ⊥
+IsBadLine Output = ⊥
+IsBadLine Memory = ⊥
+
+-- the file can't be read, whatever may be meant by its name
+pub record SaysUnreadable (file : Bor Text) (why : Option (Bor Text)) (fault : Fault) : Type 0 where
+  pub meant : Meant
+  pub is : fault ≡ FileUnreadable file why meant
+
+-- the fault is this one, but for what may be meant by the name of a file that is missing
+abbrev pub IsWithMeant : Fault → Fault → Type 0
+IsWithMeant (CarriageReturn place) fault = fault ≡ CarriageReturn place
+IsWithMeant (NotNormal report) fault = fault ≡ NotNormal report
+IsWithMeant NotTree fault = fault ≡ NotTree
+IsWithMeant NotJson fault = fault ≡ NotJson
+IsWithMeant (NoMessage meant) fault = fault ≡ NoMessage meant
+IsWithMeant (CommandLine advice) fault = fault ≡ CommandLine advice
+IsWithMeant (UnknownLocale tag) fault = fault ≡ UnknownLocale tag
+IsWithMeant (FileUnreadable file why meant) fault = SaysUnreadable file why fault
+IsWithMeant (FileNotUtf8 file row) fault = fault ≡ FileNotUtf8 file row
+IsWithMeant Input fault = fault ≡ Input
+IsWithMeant Output fault = fault ≡ Output
+IsWithMeant Memory fault = fault ≡ Memory
+
+-- what is said of a line of a file
+abbrev pub said_at : Bor Text → ℕ → Text → Text
+said_at file row said = codes "ftl: " ++ (file.now ++ (codes ":" ++ (decimal row ++ said)))
+
+abbrev pub return_reason : Option FilePlace → Text
+return_reason None = []
+return_reason (Some p) = said_at p.file p.row (codes ": a carriage return; `ftl tidy` makes line feeds of Windows line ends\n")
+
+-- what may be meant by the name of a file that is missing
+abbrev pub meant_line : Bor Text → Meant → Text
+meant_line file may_be.Nothing = []
+meant_line file may_be.Argument = codes "ftl: did you mean --argument " ++ (file.now ++ codes "?\n")
+meant_line file may_be.Order = codes "ftl: the message comes first, and then the files: ftl format ID FILE..\n"
+
+abbrev pub unreadable_reason : Bor Text → Option (Bor Text) → Meant → Text
+unreadable_reason file None meant = []
+unreadable_reason file (Some why) meant = (codes "ftl: " ++ (file.now ++ (codes ": " ++ (why.now ++ codes "\n")))) ++ meant_line file meant
+
+-- The lines that say why it came, if that is known: by the kind of the fault, and by what it carries.
+abbrev pub reason_of : Fault → Text
+reason_of (CarriageReturn place) = return_reason place
+reason_of (NotNormal report) = option_map_or string_bytes report []
+reason_of NotTree = []
+reason_of NotJson = []
+reason_of (NoMessage meant) = option_map_or string_bytes meant []
+reason_of (CommandLine advice) = option_map_or string_bytes advice []
+reason_of (UnknownLocale tag) = []
+reason_of (FileUnreadable file why meant) = unreadable_reason file why meant
+reason_of (FileNotUtf8 file row) = said_at file row (codes ": a byte that isn't UTF-8\n")
+reason_of Input = []
+reason_of Output = []
+reason_of Memory = []
+
+-- the line of a fault, and a reason
+abbrev pub said : Fault → Text → Text
+said fault reason = fault_line fault ++ reason
+
+-- What is shown of the reason: all of it or, if memory runs out for it or it isn't to be shown, nothing.
+abbrev pub IsShownReason : Bool → Fault → Text → Type 0
+IsShownReason shown fault text = (text ≡ (if shown then reason_of fault else [])) ⊎ (text ≡ [])

@@ -1,5 +1,5 @@
 -- What becomes of files that are tidied in place.
-use Rattle.std.specs.Prelude.{◌≡◌, ⊤, List, Option, None, Some, Result, IfOk, IsErrOf}
+use Rattle.std.specs.Prelude.{◌≡◌, ⊤, Bool, List, Option, None, Some, Result, IfOk, IsErrOf}
 use Rattle.std.specs.Io.KnownBytes.{Appends}
 use Rattle.fluent_serve.specs.Text.{Text}
 use denote.Ref.{Bor}
@@ -75,9 +75,9 @@ module _ {F R W : Type 0} (folders : FolderGhosts F) (before after : F) (source 
   FilesEndBy command result =
       FilesEnd (Some (command_view command)) (state_of folders before) (state_of folders after) (devices source.remaining reader reader' sink.contents writer writer') result
 
-  abbrev pub FilesEndFor : List (Bor Text) → Result Ended Fault → Type 0
-  FilesEndFor words result =
-      FilesEnd (command_of (texts words)) (state_of folders before) (state_of folders after) (devices source.remaining reader reader' sink.contents writer writer') result
+  abbrev pub FilesEndFor : Bool → List (Bor Text) → Result Ended Fault → Type 0
+  FilesEndFor colours words result =
+      FilesEnd (command_of colours (texts words)) (state_of folders before) (state_of folders after) (devices source.remaining reader reader' sink.contents writer writer') result
 
 -- of the report on a catalog, by what is known of a folder before and after
 module _ {F : Type 0} (folders : FolderGhosts F) (before after : F) where

@@ -7,6 +7,7 @@ pub mod Plurals
 pub mod Program
 pub mod Refusals
 pub mod Shown
+pub mod Terminals
 pub mod FormatView
 pub mod Input
 pub mod Reported

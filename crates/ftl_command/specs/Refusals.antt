@@ -1,5 +1,5 @@
 -- What is so of the fault that a command ends with.
-use Rattle.std.specs.Prelude.{◌≡◌, ◌≢◌, ◌⊎◌, Option, None, Some, Result, IfErr, IsErrOf, IsTrue, List, OnOk}
+use Rattle.std.specs.Prelude.{◌≡◌, ◌≢◌, ◌⊎◌, Bool, Option, None, Some, Result, IfErr, IsTrue, List, OnOk}
 use Rattle.std.specs.List.{list_any}
 use Rattle.serde_json.specs.Read.{read as read_text}
 use Rattle.fluent_serve.specs.Text.{Text}
@@ -13,7 +13,7 @@ use Rattle.fluent_tidy.specs.Sources.{holds_return}
 use Rattle.fluent_tidy.specs.Trees.{IsNotImported}
 use Rattle.ftl_arguments.specs.Meaning.{AskForHelpAlone, AskForText, AskForVersionAlone, Asked, Format, Tidy, command_of, run, format, check, lint, lint_input, tidy_files, tidy_input, tidy, clean, normalize, join, export, import}
 use Rattle.ftl_command.specs.Files.{OnFile, OnTexts}
-use Rattle.ftl_command.specs.Faults.{IsBeforeInput, IsOfLocale, SaysOfFiles, SaysUnknown}
+use Rattle.ftl_command.specs.Faults.{IsBadLine, IsBeforeInput, IsOfLocale, SaysOfFiles, SaysUnknown}
 use Rattle.ftl_command.specs.Program.{OnFound, OnValue, ShowsVersionOn, UnlessListed, files_named, locale_named}
 use Rattle.ftl_command.specs.declared.ended.Ended.{Ended}
 use Rattle.ftl_files.specs.States.{state_of}
@@ -55,45 +55,45 @@ HoldNoJson contents (import file) = OnFile contents file (λ source. read_text s
 
 -- What the fault says of the files to be tidied is so. Other faults say nothing of what they hold.
 abbrev pub IsRightOf : (Text → Option Text) → Tidy → Fault → Type 0
-IsRightOf contents t CarriageReturn = HoldReturn contents t
-IsRightOf contents t NotNormal = HaveNoNormalText contents t
+IsRightOf contents t (CarriageReturn place) = HoldReturn contents t
+IsRightOf contents t (NotNormal report) = HaveNoNormalText contents t
 IsRightOf contents t NotTree = HoldNoTree contents t
 IsRightOf contents t NotJson = HoldNoJson contents t
-IsRightOf contents t NoMessage = ⊥
-IsRightOf contents t CommandLine = Unit {0}
+IsRightOf contents t (NoMessage meant) = ⊥
+IsRightOf contents t (CommandLine advice) = Unit {0}
 IsRightOf contents t (UnknownLocale tag) = Unit {0}
-IsRightOf contents t (FileUnreadable file) = Unit {0}
-IsRightOf contents t (FileNotUtf8 file) = Unit {0}
+IsRightOf contents t (FileUnreadable file why meant) = Unit {0}
+IsRightOf contents t (FileNotUtf8 file row) = Unit {0}
 IsRightOf contents t Input = Unit {0}
 IsRightOf contents t Output = Unit {0}
 IsRightOf contents t Memory = Unit {0}
 
 -- the fault is no refusal to tidy
 abbrev pub RefusesNothing : Fault → Type 0
-RefusesNothing CarriageReturn = ⊥
-RefusesNothing NotNormal = ⊥
+RefusesNothing (CarriageReturn place) = ⊥
+RefusesNothing (NotNormal report) = ⊥
 RefusesNothing NotTree = ⊥
 RefusesNothing NotJson = ⊥
-RefusesNothing NoMessage = ⊥
-RefusesNothing CommandLine = Unit {0}
+RefusesNothing (NoMessage meant) = ⊥
+RefusesNothing (CommandLine advice) = Unit {0}
 RefusesNothing (UnknownLocale tag) = Unit {0}
-RefusesNothing (FileUnreadable file) = Unit {0}
-RefusesNothing (FileNotUtf8 file) = Unit {0}
+RefusesNothing (FileUnreadable file why meant) = Unit {0}
+RefusesNothing (FileNotUtf8 file row) = Unit {0}
 RefusesNothing Input = Unit {0}
 RefusesNothing Output = Unit {0}
 RefusesNothing Memory = Unit {0}
 
 -- if the fault says that there is no such message, the files' texts have none
 abbrev pub SaysNoMessage : (Text → Option Text) → Format → Fault → Type 0
-SaysNoMessage contents f CarriageReturn = ⊥
-SaysNoMessage contents f NotNormal = ⊥
+SaysNoMessage contents f (CarriageReturn place) = ⊥
+SaysNoMessage contents f (NotNormal report) = ⊥
 SaysNoMessage contents f NotTree = ⊥
 SaysNoMessage contents f NotJson = ⊥
-SaysNoMessage contents f NoMessage = OnFound contents f (λ found. found ≡ None)
-SaysNoMessage contents f CommandLine = Unit {0}
+SaysNoMessage contents f (NoMessage meant) = OnFound contents f (λ found. found ≡ None)
+SaysNoMessage contents f (CommandLine advice) = Unit {0}
 SaysNoMessage contents f (UnknownLocale tag) = Unit {0}
-SaysNoMessage contents f (FileUnreadable file) = Unit {0}
-SaysNoMessage contents f (FileNotUtf8 file) = Unit {0}
+SaysNoMessage contents f (FileUnreadable file why meant) = Unit {0}
+SaysNoMessage contents f (FileNotUtf8 file row) = Unit {0}
 SaysNoMessage contents f Input = Unit {0}
 SaysNoMessage contents f Output = Unit {0}
 SaysNoMessage contents f Memory = Unit {0}
@@ -114,7 +114,7 @@ IsRight contents (Some (tidy t)) fault = IsRightOf contents t fault
 
 -- what it says of the words and of the files is so
 pub record IsFaultOf {F : Type 0} (folders : FolderGhosts F) (before after : F) (asked : Option Asked) (fault : Fault) : Type 0 where
-  pub refused : fault ≡ CommandLine → asked ≡ None
+  pub refused : IsBadLine fault → asked ≡ None
   pub unknown : SaysUnknown (locale_named asked) fault
   -- before the locale is found no file is read
   pub unopened : IsOfLocale fault → after ≡ before
@@ -167,10 +167,10 @@ pub record DevicesEnd {F R W : Type 0} (folders : FolderGhosts F) (before after 
   pub stops : IfErr result (IsDeviceFault source reader reader' sink writer writer')
 
 -- What becomes of words that ask for help or for the version, and for nothing else.
-pub record AnswersHelp {W : Type 0} (sink : SinkGhosts W) (writer writer' : W) (words : List Text) (result : Result Ended Fault) : Type 0 where
+pub record AnswersHelp {W : Type 0} (sink : SinkGhosts W) (writer writer' : W) (colours : Bool) (words : List Text) (result : Result Ended Fault) : Type 0 where
   -- words that are no command ask for one of the texts, if nothing is at fault
-  pub text : OnOk result (command_of words ≡ None → AskForText words)
+  pub text : OnOk result (command_of colours words ≡ None → AskForText words)
   pub version : AskForVersionAlone words → ShowsVersionOn sink writer writer' result
   -- they are no bad command line
-  pub not_help : IsErrOf result CommandLine → ¬ AskForHelpAlone words
-  pub not_version : IsErrOf result CommandLine → ¬ AskForVersionAlone words
+  pub not_help : IfErr result (λ fault. IsBadLine fault → ¬ AskForHelpAlone words)
+  pub not_version : IfErr result (λ fault. IsBadLine fault → ¬ AskForVersionAlone words)

@@ -16,71 +16,91 @@ use crate::input::tidy_input;
 use crate::linting::{lint_files, lint_input};
 use crate::output::write_asked;
 use crate::running::{RunOptions, run_files};
-use crate::telling::{tell_errors_on, tell_on};
+use crate::telling::{shown_reason, tell_errors_on, tell_on};
+use crate::terminals::Terminals;
 use crate::tidying::write_tidied;
+use fluent_serve::serve::write_all;
 use fluent_serve::stream::{FromRead, FromWrite, Sink, Source};
-use ftl_arguments::{Command, Invocation, WordsError, command};
+use ftl_arguments::{Command, CommandError, Invocation, command};
 use ftl_files::{Folder, FromFiles};
 use std::alloc::Global;
 use std::io;
 use std::rt::Files;
 
-/// Runs the program on its command-line arguments, and returns the status that it ends with: 0, or 1 if a check found
-/// something, or that of the first failure, which is reported on one line of `faults`. `lint` and `tidy` report all
-/// failures of files, and the highest status counts.
+/// Runs the program on its command-line arguments, and returns the status that it ends with: 0, or 1
+/// if a check found something, or that of the first failure, which is reported on one line of
+/// `faults`. On a terminal, and for a command that people type, more lines say why it came. `lint`
+/// and `tidy` report all failures of files, and the highest status counts.
 pub fn program<R: Files, I: io::Read + Drop, O: io::Write + Drop, F: io::Write + Drop>(
     rt: &R,
     alloc: Global,
     words: &[&str],
+    screens: Terminals,
     input: I,
     output: O,
     faults: F,
 ) -> u8
     ensures statuses { Contains (0 ∷ 1 ∷ 2 ∷ 3 ∷ 4 ∷ []) result }
-    ensures refused { result ≡ 2 → IsRefused (command_of (texts words.now)) }
+    ensures refused { result ≡ 2 → IsRefused (command_of screens.colours (texts words.now)) }
     ensures not_help { result ≡ 2 → ¬ AskForHelpAlone (texts words.now) }
     ensures not_version { result ≡ 2 → ¬ AskForVersionAlone (texts words.now) }
-    ensures served { result ≡ 0 → command_of (texts words.now) ≡ None
+    ensures served { result ≡ 0 → command_of screens.colours (texts words.now) ≡ None
         → AskForText (texts words.now) }
     ensures ended { EndsOver (I.remaining input) (O.contents output) (F.contents faults)
-        (texts words.now) result }
+        screens (texts words.now) result }
 {
-    let mut folder = FromFiles::new(rt);
+    let mut folder = FromFiles::new(rt, alloc, are_files_listed(words));
     let mut reader = FromRead::new(input);
     let mut writer = FromWrite::new(output);
     let mut faults = FromWrite::new(faults);
-    program_on(
+    let status = program_on(
         &mut folder,
         alloc,
         words,
+        screens,
         &mut reader,
         &mut writer,
         &mut faults,
-    )
+    );
+    let _ = write_all(&mut faults, folder.bad_bytes().as_bytes());
+    status
 }
 
-/// The same on a folder, a source and sinks, which contracts can see: what is read and written, the status and the line
-/// of a failure are exactly those that the command results in.
+/// Whether the command lists files, and goes on after one that it can't read.
+fn are_files_listed(words: &[&str]) -> bool {
+    match words {
+        [word, ..] => *word == "lint" || *word == "tidy",
+        [] => false,
+    }
+}
+
+/// Runs the program on a folder, a source and sinks, which contracts can see: what is read and
+/// written, the status and the lines of a failure are exactly those that the command results in.
 pub fn program_on<F: Folder, I: Source, O: Sink, T: Sink>(
     folder: &mut F,
     alloc: Global,
     words: &[&str],
+    screens: Terminals,
     reader: &mut I,
     writer: &mut O,
     faults: &mut T,
 ) -> u8
     ensures statuses { Contains (0 ∷ 1 ∷ 2 ∷ 3 ∷ 4 ∷ []) result }
-    ensures refused { result ≡ 2 → IsRefused (command_of (texts words.now)) }
+    ensures refused { result ≡ 2 → IsRefused (command_of screens.colours (texts words.now)) }
     ensures not_help { result ≡ 2 → ¬ AskForHelpAlone (texts words.now) }
     ensures not_version { result ≡ 2 → ¬ AskForVersionAlone (texts words.now) }
-    ensures served { result ≡ 0 → command_of (texts words.now) ≡ None
+    ensures served { result ≡ 0 → command_of screens.colours (texts words.now) ≡ None
         → AskForText (texts words.now) }
     ensures ended { EndsOn F.Folder folder.old folder.new I.Source reader.old reader.new
-        O.Sink writer.old writer.new T.Sink faults.old faults.new (texts words.now) result }
+        O.Sink writer.old writer.new T.Sink faults.old faults.new
+        screens (texts words.now) result }
 {
-    match run_command(folder, alloc, words, reader, writer) {
+    match run_command(folder, alloc, words, screens.colours, reader, writer) {
         Ok(end) => tell_errors_on(faults, &end),
-        Err(fault) => tell_on(faults, fault),
+        Err(fault) => {
+            let reason = shown_reason(alloc, &fault, screens.explain(words));
+            tell_on(faults, &fault, reason.as_str())
+        }
     }
 }
 
@@ -94,28 +114,31 @@ pub fn run_command<'words, F: Folder, I: Source, O: Sink>(
     folder: &mut F,
     alloc: Global,
     words: &'words [&'words str],
+    colours: bool,
     reader: &mut I,
     writer: &mut O,
 ) -> Result<Ended, Fault<'words>>
     // What is asked for is done. A run writes what it would write from whatever its sources are tidied into, too. What was written
     // before a fault stays written.
     ensures ended { CommandEndsOn F.Folder folder.old I.Source reader.old reader.new
-        O.Sink writer.old writer.new (command_of (texts words.now)) result }
-    ensures help { AnswersHelp O.Sink writer.old writer.new (texts words.now) result }
+        O.Sink writer.old writer.new (command_of colours (texts words.now)) result }
+    ensures help { AnswersHelp O.Sink writer.old writer.new
+        colours (texts words.now) result }
     ensures devices { DevicesEnd F.Folder folder.old folder.new I.Source reader.old reader.new
-        O.Sink writer.old writer.new (command_of (texts words.now)) result }
+        O.Sink writer.old writer.new (command_of colours (texts words.now)) result }
     // Files that are tidied in place hold their tidy texts, and no other file changes. What is linted are the files that the
     // paths stand for, but for those that can't be read, which are reported.
     ensures files { FilesEndFor F.Folder folder.old folder.new I.Source reader.old reader.new
-        O.Sink writer.old writer.new words.now result }
-    ensures no_input { WithoutInput (command_of (texts words.now)) (reader.new ≡ reader.old) }
+        O.Sink writer.old writer.new colours words.now result }
+    ensures no_input { WithoutInput (command_of colours (texts words.now))
+        (reader.new ≡ reader.old) }
 {
-    match command(alloc, words) {
+    match command(alloc, words, colours) {
         Ok(Invocation::Command(command)) => do_command(folder, alloc, &command, reader, writer),
         Ok(Invocation::Help(text)) => write_asked(writer, text.as_str()),
         Ok(Invocation::Version(line)) => write_asked(writer, line.as_str()),
-        Err(WordsError::Bad) => Err(Fault::CommandLine),
-        Err(WordsError::Memory) => Err(Fault::Memory),
+        Err(CommandError::Bad { advice }) => Err(Fault::CommandLine { advice }),
+        Err(CommandError::Memory) => Err(Fault::Memory),
     }
 }
 

@@ -1,13 +1,13 @@
 //! The sources' files.
-ghost use Rattle.std.specs.Prelude.{◌≡◌, map, IfOk, OnOk, IfErr, IfSome, IsSome, string_bytes, [], ◌∷◌};
+ghost use Rattle.std.specs.Prelude.{◌≡◌, map, IfOk, OnOk, IfErr, IfSome, string_bytes, [], ◌∷◌};
 ghost use Rattle.std.specs.Str.{IsUtf8};
 ghost use Rattle.fluent_serve.specs.Texts.{texts};
 ghost use Rattle.ftl_command.specs.Faults.{IsFaultOfFiles};
+ghost use Rattle.ftl_files.specs.Rows.{bad_row};
 ghost use Rattle.ftl_command.specs.Files.{AreRead};
 
-use crate::fault::Fault;
-use ftl_files::{FileError, Folder};
-use simdutf8::basic::from_utf8;
+use crate::fault::{Fault, Meant};
+use ftl_files::{FileError, Folder, bad_row};
 use std::alloc::Global;
 
 /// Reads the files, a text for each, in their order.
@@ -53,22 +53,29 @@ pub fn read_text_file<'words, F: Folder>(
     let bytes = match folder.read(alloc, file) {
         Ok(bytes) => bytes,
         Err(FileError::Memory) => return Err(Fault::Memory),
-        Err(FileError::Unreadable) => return Err(Fault::FileUnreadable { file }),
+        Err(FileError::Unreadable) => {
+            return Err(Fault::FileUnreadable {
+                file,
+                why: folder.why(),
+                meant: Meant::Nothing,
+            });
+        }
     };
     match text_of(bytes) {
-        Some(text) => Ok(text),
-        None => Err(Fault::FileNotUtf8 { file }),
+        Ok(text) => Ok(text),
+        Err(row) => Err(Fault::FileNotUtf8 { file, row }),
     }
 }
 
-/// The bytes as a text, if they are UTF-8.
-fn text_of(bytes: Vec<u8>) -> Option<String>
-    ensures same { IfSome result (λ text. string_bytes text ≡ bytes.items) }
-    ensures found { IsUtf8 bytes.items → IsSome result }
+/// The bytes as a text, if they are UTF-8, or otherwise the number of the line that isn't.
+fn text_of(bytes: Vec<u8>) -> Result<String, usize>
+    ensures same { IfOk result (λ text. string_bytes text ≡ bytes.items) }
+    ensures found { IfErr result (λ row.
+        (IsUtf8 bytes.items → ⊥) × (row ≡ bad_row bytes.items)) }
 {
-    if from_utf8(&bytes).is_err() {
-        return None;
+    match bad_row(&bytes) {
+        Some(row) => Err(row),
+        // Its bytes were just found to be UTF-8.
+        None => Ok(unsafe { String::from_utf8_unchecked(bytes) }),
     }
-    // Its bytes were just found to be UTF-8.
-    Some(unsafe { String::from_utf8_unchecked(bytes) })
 }

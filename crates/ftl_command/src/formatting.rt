@@ -4,7 +4,7 @@ ghost use Rattle.fluent_serve.specs.Texts.{texts};
 ghost use Rattle.ftl_command.specs.FormatView.{IsWrittenAs};
 ghost use Rattle.ftl_arguments.specs.CommandView.{format_view};
 ghost use Rattle.ftl_arguments.specs.Meaning as asked;
-ghost use Rattle.ftl_command.specs.Faults.{end_status};
+ghost use Rattle.ftl_command.specs.Faults.{IsWithMeant, end_status};
 ghost use Rattle.ftl_command.specs.Plurals.{rules_view};
 ghost use Rattle.ftl_command.specs.Program.{FormatEnds, IsFound, errors_in, reply_for, status_by};
 ghost use Rattle.ftl_command.specs.Refusals.{IsEarlyFault, IsFaultOf, IsTextFault, TextWorks};
@@ -13,6 +13,7 @@ use crate::borrowed::borrow_texts;
 use crate::ended::Ended;
 use crate::fault::Fault;
 use crate::files::read_text_files;
+use crate::meant::{meant_by_file, meant_by_message};
 use crate::output::write_to_stream;
 use crate::plurals::RunRules;
 use crate::{Formatted, format_message};
@@ -71,9 +72,31 @@ fn formatted_on<'words, F: Folder>(
     ensures opens { OnOk result (F.failures folder.new ≡ F.failures folder.old) }
 {
     let rules = RunRules::of_locale(format.locale, format.plain_numbers)?;
-    let texts = read_text_files(folder, alloc, &format.files)?;
+    let texts = match read_text_files(folder, alloc, &format.files) {
+        Ok(texts) => texts,
+        Err(fault) => return Err(with_meant(format, fault)),
+    };
     let sources = borrow_texts(alloc, &texts)?;
-    formatted_from(alloc, format, &rules, &sources)?.ok_or(Fault::NoMessage)
+    match formatted_from(alloc, format, &rules, &sources)? {
+        Some(formatted) => Ok(formatted),
+        None => Err(Fault::NoMessage {
+            meant: meant_by_message(alloc, format, &sources),
+        }),
+    }
+}
+
+/// A fault of the files, with what may be meant by the name of one that is missing.
+fn with_meant<'words>(format: &Format<'_>, fault: Fault<'words>) -> Fault<'words>
+    ensures { IsWithMeant fault.entry result }
+{
+    match fault {
+        Fault::FileUnreadable { file, why, .. } => Fault::FileUnreadable {
+            file,
+            why,
+            meant: meant_by_file(format, file, why),
+        },
+        fault => fault,
+    }
 }
 
 /// What is written of it from these sources.

@@ -18,17 +18,20 @@ pub mod formatting;
 pub mod in_place;
 pub mod input;
 pub mod linting;
+mod meant;
 mod message;
 mod message_errors;
 pub mod output;
 pub mod plurals;
 pub mod running;
 pub mod telling;
+pub mod terminals;
 pub mod tidying;
 
 pub use commands::program;
 pub use ftl_arguments::{
-    Command, Format, Invocation, Lint, ReportFormat, Tidy, TidyFiles, VERSION, WordsError, advice,
+    Command, CommandError, Format, Invocation, Lint, ReportFormat, Tidy, TidyFiles, VERSION,
     command,
 };
 pub use message::{Formatted, format_message};
+pub use terminals::{Terminals, are_for_people};

@@ -6,18 +6,19 @@ ghost use Rattle.serde_json.specs.Written.{has_float};
 ghost use Rattle.fluent_serve.specs.Texts.{texts};
 ghost use Rattle.ftl_arguments.specs.CommandView.{tidy_view};
 ghost use Rattle.ftl_arguments.specs.Meaning as asked;
+ghost use Rattle.ftl_command.specs.Faults.{IsCleanFault, IsNormalizeFault};
 ghost use Rattle.ftl_command.specs.Program.{Tidies, TidyEnds, data_line};
 ghost use Rattle.ftl_command.specs.Refusals.{IsEarlyFault, IsFaultOf, IsTextFault, TextWorks};
 
 use crate::borrowed::borrow_texts;
 use crate::ended::Ended;
-use crate::fault::Fault;
+use crate::fault::{Fault, FilePlace};
 use crate::files::{read_text_file, read_text_files};
 use crate::output::write_to_stream;
 use fluent_serve::stream::Sink;
-use fluent_tidy::{clean, export, import, join, normalize};
+use fluent_tidy::{CleanError, NormalizeError, clean, export, import, join, normalize};
 use ftl_arguments::Tidy;
-use ftl_files::Folder;
+use ftl_files::{FileEnd, Folder, last_row, tidy_source};
 use serde_json::Value;
 use std::alloc::{AllocError, Global};
 
@@ -82,7 +83,10 @@ fn clean_file<'words, F: Folder>(
     ensures opens { OnOk result (F.failures folder.new ≡ F.failures folder.old) }
 {
     let source = read_text_file(folder, alloc, file)?;
-    Ok(clean(alloc, source.as_str())?)
+    match clean(alloc, source.as_str()) {
+        Ok(text) => Ok(text),
+        Err(error) => Err(fault_of_clean(error, &[file], &[source.as_str()])),
+    }
 }
 
 /// The normal text of a file's source.
@@ -98,7 +102,10 @@ fn normalize_file<'words, F: Folder>(
     ensures opens { OnOk result (F.failures folder.new ≡ F.failures folder.old) }
 {
     let source = read_text_file(folder, alloc, file)?;
-    Ok(normalize(alloc, source.as_str())?)
+    match normalize(alloc, source.as_str()) {
+        Ok(text) => Ok(text),
+        Err(error) => Err(fault_of_normalize(alloc, error, file, source.as_str())),
+    }
 }
 
 /// The sources of files, joined.
@@ -115,7 +122,10 @@ fn join_files<'words, F: Folder>(
 {
     let texts = read_text_files(folder, alloc, files)?;
     let sources = borrow_texts(alloc, &texts)?;
-    Ok(join(alloc, &sources)?)
+    match join(alloc, &sources) {
+        Ok(text) => Ok(text),
+        Err(error) => Err(fault_of_clean(error, files, &sources)),
+    }
 }
 
 /// The JSON tree of a file's source, on one line.
@@ -131,9 +141,10 @@ fn export_file<'words, F: Folder>(
     ensures opens { OnOk result (F.failures folder.new ≡ F.failures folder.old) }
 {
     let source = read_text_file(folder, alloc, file)?;
-    let value = export(alloc, source.as_str())?;
-    drop(source);
-    Ok(line_of(alloc, &value)?)
+    match export(alloc, source.as_str()) {
+        Ok(value) => Ok(line_of(alloc, &value)?),
+        Err(error) => Err(fault_of_clean(error, &[file], &[source.as_str()])),
+    }
 }
 
 /// A tree's value as compact JSON text, and a line feed.
@@ -174,5 +185,61 @@ fn json_value<'words>(alloc: Global, text: &str) -> Result<Value, Fault<'words>>
         Ok(value) => Ok(value),
         Err(error) if error.is_memory() => Err(Fault::Memory),
         Err(_) => Err(Fault::NotJson),
+    }
+}
+
+/// What is reported if sources aren't cleaned, and where the first carriage return of theirs is.
+fn fault_of_clean<'words>(
+    error: CleanError,
+    files: &[&'words str],
+    sources: &[&str],
+) -> Fault<'words>
+    ensures { IsCleanFault error result }
+{
+    match error {
+        CleanError::Memory => Fault::Memory,
+        CleanError::CarriageReturn => Fault::CarriageReturn {
+            place: return_in(files, sources),
+        },
+    }
+}
+
+/// What is reported if a source isn't normalized, and where what stands in the way is.
+fn fault_of_normalize<'words>(
+    alloc: Global,
+    error: NormalizeError,
+    file: &'words str,
+    source: &str,
+) -> Fault<'words>
+    ensures { IsNormalizeFault error result }
+{
+    match error {
+        NormalizeError::Memory => Fault::Memory,
+        NormalizeError::CarriageReturn => Fault::CarriageReturn {
+            place: return_in(&[file], &[source]),
+        },
+        NormalizeError::NotNormal => Fault::NotNormal {
+            report: shape_report(alloc, file, source),
+        },
+    }
+}
+
+/// Where the first carriage return in the sources of these files is.
+fn return_in<'words>(files: &[&'words str], sources: &[&str]) -> Option<FilePlace<'words>> {
+    for (file, source) in files.iter().zip(sources) {
+        if let Some((front, _)) = source.split_once('\r') {
+            let row = last_row(front.as_bytes());
+            return Some(FilePlace { file: *file, row });
+        }
+    }
+    None
+}
+
+/// The report on an entry of a source that would be read otherwise if it were written anew. `None`
+/// if memory runs out.
+fn shape_report(alloc: Global, file: &str, source: &str) -> Option<String> {
+    match tidy_source(alloc, file, source) {
+        Ok(FileEnd::Refused(report)) => Some(report),
+        _ => None,
     }
 }

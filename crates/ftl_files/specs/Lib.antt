@@ -8,3 +8,4 @@ pub mod Listed
 pub mod Tidying
 pub mod Reading
 pub mod TidyView
+pub mod Rows

@@ -6,6 +6,7 @@ use crate::causes::{is_refused, words_of};
 use crate::folder::{FileError, Folder, Listing, ReplaceError};
 use crate::listing::list_sources;
 use crate::replacing::{NotReplaced, replace_file};
+use crate::rows::bad_row;
 use std::alloc::Global;
 use std::fs::File;
 use std::io;
@@ -21,11 +22,14 @@ pub struct FromFiles<'a, R> {
     why: Option<&'static str>,
     /// Why the last folder that could not be listed wasn't.
     unlisted: Option<&'static str>,
+    /// A line for each file that was read and isn't UTF-8, if these are noted.
+    bad_bytes: Option<String>,
 }
 
 impl<'a, R: Files> FromFiles<'a, R> {
-    /// The files that `files` opens, with no failure yet.
-    pub fn new(files: &'a R) -> FromFiles<'a, R>
+    /// The files that `files` opens, with no failure yet. Those that are read and aren't UTF-8 are
+    /// noted, if that is wanted.
+    pub fn new(files: &'a R, alloc: Global, notes: bool) -> FromFiles<'a, R>
         ensures contents { ⟦<FromFiles<'a, R> as Folder>⟧.contents result ≡ (λ _. None) }
         ensures sources { ⟦<FromFiles<'a, R> as Folder>⟧.sources result ≡ (λ _. None) }
         ensures failures { ⟦<FromFiles<'a, R> as Folder>⟧.failures result ≡ 0 }
@@ -35,6 +39,35 @@ impl<'a, R: Files> FromFiles<'a, R> {
             failures: 0,
             why: None,
             unlisted: None,
+            bad_bytes: if notes {
+                Some(String::new(alloc))
+            } else {
+                None
+            },
+        }
+    }
+
+    /// A line for each file that was read and isn't UTF-8, if these are noted: where its first byte
+    /// is that isn't.
+    pub fn bad_bytes(&self) -> &str {
+        match &self.bad_bytes {
+            Some(lines) => lines.as_str(),
+            None => "",
+        }
+    }
+
+    /// Notes a file that was read, if it isn't UTF-8. If memory runs out, it isn't noted.
+    fn note_bytes(&mut self, alloc: Global, name: &str, bytes: &[u8])
+        ensures { self.new.failures ≡ self.old.failures }
+    {
+        let Some(lines) = &mut self.bad_bytes else {
+            return;
+        };
+        let Some(row) = bad_row(bytes) else {
+            return;
+        };
+        if let Ok(line) = format!(in alloc; "ftl: {name}:{row}: a byte that isn't UTF-8\n") {
+            let _ = lines.push_str(line.as_str());
         }
     }
 
@@ -74,7 +107,10 @@ impl<R: Files> Folder for FromFiles<'_, R> {
 
     fn read(&mut self, alloc: Global, name: &str) -> Result<Vec<u8>, FileError> {
         match read_file(self.files, alloc, name) {
-            Ok(bytes) => Ok(bytes),
+            Ok(bytes) => {
+                self.note_bytes(alloc, name, &bytes);
+                Ok(bytes)
+            }
             Err(error) if is_refused(&error) => Err(FileError::Memory),
             Err(error) => {
                 self.note_unread(&error);

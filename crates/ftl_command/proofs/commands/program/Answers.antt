@@ -9,5 +9,5 @@ returns-clause-ended g c = record {
   input_new = (c.new-reader.ensures.bytes, c.new-reader.ensures.failures);
   output_new = (c.new-writer.ensures.bytes, c.new-writer.ensures.failures);
   faults_new = (c.new-faults.ensures.bytes, c.new-faults.ensures.failures);
-  ends = rw (c.new-folder.ensures.contents, c.new-folder.ensures.sources, c.new-folder.ensures.failures) at c.program_on.ensures.ended;
+  ends = rw (c.new-folder.ensures.contents, c.new-folder.ensures.sources, c.new-folder.ensures.failures) at c.program_on-status.ensures.ended;
 }

@@ -1,4 +1,4 @@
-use Rattle.std.proofs.Common.{◌∙◌, Err, Ok, ap, sym}
+use Rattle.std.proofs.Common.{◌∙◌, Err, Ok, string_bytes, sym}
 use Rattle.clap.specs.declared.error.kind.ErrorKind.TheVariants.{DisplayHelp, DisplayVersion}
 use Rattle.ftl_arguments.specs.Meaning.{command_of, texts}
 use Rattle.fluent_serve.specs.Exchange.{devices}
@@ -19,10 +19,10 @@ returns-in-Ok-clause-ended g c = record {
   reads = c.in-Ok.ensures.devices.reads;
   writes = c.in-Ok.ensures.devices.writes;
   of_files = c.in-Ok.ensures.files;
-  no_input = without_input (command_of (texts c.args.words.now)) (untouched g.I.Source.remaining g.I.Source.failures) c.run_command.ensures.no_input;
-  refused = λ is. absurd cc;
-  not_help = λ is. absurd cc;
-  not_version = λ is. absurd cc;
+  no_input = without_input (command_of c.args.screens.colours (texts c.args.words.now)) (untouched g.I.Source.remaining g.I.Source.failures) c.run_command.ensures.no_input;
+  refused = tt;
+  not_help = tt;
+  not_version = tt;
   unknown = tt;
   files = tt;
   right = tt;
@@ -38,7 +38,11 @@ pub returns-in-Err-clause-ended : goal.returns-in-Err-clause-ended
 returns-in-Err-clause-ended g c = let fault = c.in-Err.ensures.devices.fault in record {
   outcome = Err c.in-Err.fault;
   exact = c.tell_on.ensures.status;
-  reports = c.tell_on.ensures.told;
+  reports = record {
+    reason = string_bytes c.shown_reason-reason.result;
+    right = rw c.explain.ensures at c.shown_reason-reason.ensures;
+    reports = rw c.as_str.ensures.value at c.tell_on.ensures.told;
+  };
   done = tt;
   text = tt;
   version = c.in-Err.ensures.help.version;
@@ -46,8 +50,8 @@ returns-in-Err-clause-ended g c = let fault = c.in-Err.ensures.devices.fault in 
   reads = tt;
   writes = tt;
   of_files = c.in-Err.ensures.files;
-  no_input = without_input (command_of (texts c.args.words.now)) (untouched g.I.Source.remaining g.I.Source.failures) c.run_command.ensures.no_input;
-  refused = λ is. fault.refused cc;
+  no_input = without_input (command_of c.args.screens.colours (texts c.args.words.now)) (untouched g.I.Source.remaining g.I.Source.failures) c.run_command.ensures.no_input;
+  refused = fault.refused;
   not_help = c.in-Err.ensures.help.not_help;
   not_version = c.in-Err.ensures.help.not_version;
   unknown = fault.unknown;
@@ -66,17 +70,17 @@ returns-in-Err-clause-statuses g c = rw c.tell_on.ensures.status (status_of-amon
 
 pub returns-in-Err-clause-refused : goal.returns-in-Err-clause-refused
 returns-in-Err-clause-refused g c = λ two.
-    refused_by (command_of (texts c.args.words.now)) c.in-Err.fault c.in-Err.ensures.devices.fault.refused c.in-Err.ensures.devices.fault.unknown
+    refused_by (command_of c.args.screens.colours (texts c.args.words.now)) c.in-Err.fault c.in-Err.ensures.devices.fault.refused c.in-Err.ensures.devices.fault.unknown
     (sym c.tell_on.ensures.status ∙ two)
 
 pub returns-in-Err-clause-not_help : goal.returns-in-Err-clause-not_help
 returns-in-Err-clause-not_help g c = λ two.
-    not_alone_by (texts c.args.words.now) DisplayHelp c.in-Err.fault (λ is. c.in-Err.ensures.help.not_help (ap Err is)) c.in-Err.ensures.devices.fault.unknown
+    not_alone_by c.args.screens.colours (texts c.args.words.now) DisplayHelp c.in-Err.fault c.in-Err.ensures.help.not_help c.in-Err.ensures.devices.fault.unknown
     (sym c.tell_on.ensures.status ∙ two)
 
 pub returns-in-Err-clause-not_version : goal.returns-in-Err-clause-not_version
 returns-in-Err-clause-not_version g c = λ two.
-    not_alone_by (texts c.args.words.now) DisplayVersion c.in-Err.fault (λ is. c.in-Err.ensures.help.not_version (ap Err is)) c.in-Err.ensures.devices.fault.unknown
+    not_alone_by c.args.screens.colours (texts c.args.words.now) DisplayVersion c.in-Err.fault c.in-Err.ensures.help.not_version c.in-Err.ensures.devices.fault.unknown
     (sym c.tell_on.ensures.status ∙ two)
 
 pub returns-in-Ok-clause-served : goal.returns-in-Ok-clause-served
@@ -86,16 +90,16 @@ pub returns-in-Ok-clause-refused : goal.returns-in-Ok-clause-refused
 returns-in-Ok-clause-refused g c = λ two.
     refused_end (g.F.Folder.contents c.args.folder.now)
     (devices g.I.Source.remaining c.args.reader.now c.run_command.new.reader g.O.Sink.contents c.args.writer.now c.run_command.new.writer)
-    (command_of (texts c.args.words.now)) c.in-Ok.end c.in-Ok.ensures.ended.done (sym c.tell_errors_on.ensures.status ∙ two)
+    (command_of c.args.screens.colours (texts c.args.words.now)) c.in-Ok.end c.in-Ok.ensures.ended.done (sym c.tell_errors_on.ensures.status ∙ two)
 
 pub returns-in-Ok-clause-not_help : goal.returns-in-Ok-clause-not_help
 returns-in-Ok-clause-not_help g c = λ two.
     not_alone_end (g.F.Folder.contents c.args.folder.now)
     (devices g.I.Source.remaining c.args.reader.now c.run_command.new.reader g.O.Sink.contents c.args.writer.now c.run_command.new.writer)
-    (texts c.args.words.now) DisplayHelp c.in-Ok.end c.in-Ok.ensures.ended.done (sym c.tell_errors_on.ensures.status ∙ two)
+    c.args.screens.colours (texts c.args.words.now) DisplayHelp c.in-Ok.end c.in-Ok.ensures.ended.done (sym c.tell_errors_on.ensures.status ∙ two)
 
 pub returns-in-Ok-clause-not_version : goal.returns-in-Ok-clause-not_version
 returns-in-Ok-clause-not_version g c = λ two.
     not_alone_end (g.F.Folder.contents c.args.folder.now)
     (devices g.I.Source.remaining c.args.reader.now c.run_command.new.reader g.O.Sink.contents c.args.writer.now c.run_command.new.writer)
-    (texts c.args.words.now) DisplayVersion c.in-Ok.end c.in-Ok.ensures.ended.done (sym c.tell_errors_on.ensures.status ∙ two)
+    c.args.screens.colours (texts c.args.words.now) DisplayVersion c.in-Ok.end c.in-Ok.ensures.ended.done (sym c.tell_errors_on.ensures.status ∙ two)

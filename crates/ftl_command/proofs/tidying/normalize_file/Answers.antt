@@ -5,5 +5,5 @@ use Rattle.ftl_command.proofs.tidying.normalize_file.Goals as goal
 pub returns-in_err-source-clause-fault : goal.returns-in_err-source-clause-fault
 returns-in_err-source-clause-fault g c = search (rules, of_files)
 
-pub returns-in_err-normalize-clause-fault : goal.returns-in_err-normalize-clause-fault
-returns-in_err-normalize-clause-fault g c = search (rules, of_normalize)
+pub returns-clause-fault : goal.returns-clause-fault
+returns-clause-fault g c = search (rules, of_normalize)

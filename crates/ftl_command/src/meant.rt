@@ -1,87 +1,61 @@
 //! What may be meant by words of `format` that name no file, or no message.
 
+use crate::fault::Meant;
 use fluent_ast::{Entry, Message};
-use fluent_parser::StackBudget;
 use fluent_resource::{FluentResource, parse_sources};
-use ftl_command::Format;
-use ftl_command::borrowed::borrow_texts;
-use ftl_command::files::read_text_files;
-use ftl_files::Folder;
+use fluent_run::StackBudget;
+use ftl_arguments::Format;
 use std::alloc::{AllocError, Global};
-use std::fs::metadata;
-use std::rt::Files;
 use strsim::osa_distance;
 
-/// Which part of a command may have been meant by the name of a file that is missing, on a line.
-///
-/// # Errors
-/// [`AllocError`] if memory runs out; nothing is kept.
-pub fn meant_by_file(
-    alloc: Global,
-    format: &Format,
-    file: &str,
-) -> Result<Option<String>, AllocError> {
-    if file.ends_with(".ftl") {
-        Ok(None)
+/// What may have been meant by the name of a file that can't be read for this reason.
+pub(crate) fn meant_by_file(format: &Format<'_>, file: &str, why: Option<&str>) -> Meant {
+    if why != Some("no such file") || file.ends_with(".ftl") {
+        Meant::Nothing
     } else if file.contains('=') {
-        let line = format!(in alloc; "ftl: did you mean --argument {file}?\n")?;
-        Ok(Some(line))
+        Meant::Argument
+    } else if is_file_first(format) {
+        Meant::Order
     } else {
-        order(alloc, format)
+        Meant::Nothing
     }
 }
 
-/// Which message may have been meant, on a line, if there is none as the command names it. Only files that can be read
-/// once more are looked at.
-///
-/// # Errors
-/// [`AllocError`] if memory runs out, or a file nests too deep; nothing is kept.
-pub fn meant_by_message<R: Files, F: Folder>(
-    rt: &R,
-    folder: &mut F,
+/// Which message of these sources may have been meant, on a line, if there is none as the command
+/// names it. `None` if memory runs out, too.
+pub(crate) fn meant_by_message(
     alloc: Global,
-    format: &Format,
-) -> Result<Option<String>, AllocError> {
-    if !are_files(rt, &format.files) {
-        return Ok(None);
-    }
-    match read_text_files(folder, alloc, &format.files) {
-        Ok(texts) => meant_among(alloc, format, &texts),
-        Err(_) => Ok(None),
-    }
+    format: &Format<'_>,
+    sources: &[&str],
+) -> Option<String> {
+    let resources = parse_sources(alloc, sources, StackBudget::PROGRAM).ok()?;
+    meant_among(alloc, format, &resources).ok()?
 }
 
-/// Whether all of these names are those of files, and of nothing that can be read only once.
-fn are_files<R: Files>(rt: &R, names: &[&str]) -> bool {
-    for name in names {
-        if !metadata(rt, name).is_ok_and(|found| found.is_file()) {
-            return false;
-        }
-    }
-    true
-}
-
-/// The same among the messages of these sources.
+/// The line on the message that may have been meant among those of these resources.
 fn meant_among(
     alloc: Global,
-    format: &Format,
-    texts: &[String],
+    format: &Format<'_>,
+    resources: &[FluentResource<'_>],
 ) -> Result<Option<String>, AllocError> {
-    let sources = borrow_texts(alloc, texts)?;
-    let resources = parse_sources(alloc, &sources, StackBudget::PROGRAM)?;
-    match message_named(&resources, format) {
+    match message_named(resources, format) {
         Some(message) => near_part(alloc, format, message),
-        None => match near_id(alloc, &resources, format.id)? {
+        None => match near_id(alloc, resources, format.id)? {
             Some(near) => meant(alloc, near, format.attribute),
             None => order(alloc, format),
         },
     }
 }
 
-/// The order of the words, if a file is in the place of the message.
-fn order(alloc: Global, format: &Format) -> Result<Option<String>, AllocError> {
+/// Whether a file is in the place of the message.
+fn is_file_first(format: &Format<'_>) -> bool {
     let last = format.attribute.unwrap_or(format.id);
-    if last != "ftl" && !last.ends_with(".ftl") {
+    last == "ftl" || last.ends_with(".ftl")
+}
+
+/// The order of the words, on a line, if a file is in the place of the message.
+fn order(alloc: Global, format: &Format<'_>) -> Result<Option<String>, AllocError> {
+    if !is_file_first(format) {
         return Ok(None);
     }
     let line = "ftl: the message comes first, and then the files: ftl format ID FILE..\n";
