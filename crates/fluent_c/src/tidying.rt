@@ -127,6 +127,7 @@ fn put_damage_before(alloc: Global, source: &str, place: &mut FluentPlace) -> u3
 /// Puts the place of the first of the errors of a source. It returns [`FLUENT_DAMAGED`],
 /// [`FLUENT_CARRIAGE_RETURN`] if there are no errors, or [`FLUENT_NO_MEMORY`] if memory runs out. The
 /// place is unchanged unless it returns [`FLUENT_DAMAGED`].
+#[tactic(auto, using(crate::proofs::Damage::none_damaged))]
 fn put_damage(alloc: Global, source: &str, errors: &[ParserError], place: &mut FluentPlace) -> u32
     requires { AreTold errors.now (tiling.errors (plain source.now)) }
     ensures decided { CanBeDamaged source.now result }
