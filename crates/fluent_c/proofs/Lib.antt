@@ -6,3 +6,4 @@ mod Reports
 mod InOrder
 mod OutlineRows
 mod LocaleRows
+mod Damage

@@ -46,3 +46,8 @@ pub record Tidies (source : Text) (status : ℕ) : Type 0 where
   pub utf8 : status ≢ FLUENT_NOT_UTF8 → IsUtf8 source
   pub carriage_return : status ≡ FLUENT_CARRIAGE_RETURN → IsTrue (holds_return (plain source))
   pub not_tidy : status ≡ FLUENT_NOT_TIDY → HasNoTidyText source
+
+-- what a call returns that looks where a source is damaged: that it has a carriage return, only if it is nowhere damaged
+pub record CanBeDamaged (source : Text) (status : ℕ) : Type 0 where
+  pub decided : IsOneOf status (FLUENT_DAMAGED ∷ FLUENT_CARRIAGE_RETURN ∷ FLUENT_NO_MEMORY ∷ [])
+  pub whole : status ≡ FLUENT_CARRIAGE_RETURN → errors (plain source) ≡ []

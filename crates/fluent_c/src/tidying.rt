@@ -1,11 +1,13 @@
 //! The tidy text of a source.
 
-ghost use Rattle.std.specs.Prelude.{◌≡◌, ◌≢◌, ◌∷◌, [], List, None, IfOk, option_map, string_bytes};
-ghost use Rattle.fluent_grammar.specs.Tiling.{errors, ParserError as Fault};
+ghost use Rattle.std.specs.Prelude.{◌≡◌, ◌≢◌, ◌∷◌, [], List, IfOk, option_map, string_bytes};
+ghost use Rattle.fluent_grammar.specs.Tiling as tiling;
+ghost use Rattle.fluent_grammar.specs.Tiling.{ParserError as Fault};
 ghost use Rattle.fluent_c.specs.Made.{Holds};
 ghost use Rattle.fluent_c.specs.Statuses.{IsOneOf};
-ghost use Rattle.fluent_c.specs.Tidying.{AreTold, HoldsTidy, IsDamagedAt, Tidies, damaged_place, first_place, place_told};
+ghost use Rattle.fluent_c.specs.Tidying.{AreTold, CanBeDamaged, HoldsTidy, IsDamagedAt, Tidies, damaged_place, first_place, place_told};
 ghost use Rattle.fluent_c.specs.declared.TheConstants.{FLUENT_READ, FLUENT_NO_MEMORY, FLUENT_DAMAGED};
+ghost use Rattle.fluent_tidy.specs.TidyText.{plain};
 
 use crate::text::FluentText;
 use crate::{
@@ -14,7 +16,7 @@ use crate::{
 };
 use fluent_syntax::parser::{Error, ParserError, parse_within};
 use fluent_text::stack::StackBudget;
-use fluent_tidy::{TidyError, tidy, with_line_feeds, without_mark};
+use fluent_tidy::{TidyError, tidy_within, with_line_feeds, without_mark};
 use lint_finding::SourcePosition;
 use simdutf8::basic::from_utf8;
 use std::alloc::{AllocError, Global};
@@ -44,28 +46,34 @@ fn first_place(source: &str, errors: &[ParserError]) -> Option<FluentPlace>
     })
 }
 
-/// Where a source can't be read, as tidying reads it, if there is such a place: the first.
+/// Where a source can't be read that has these errors, as tidying reads it, if there is such a
+/// place: the first.
 ///
 /// # Errors
-/// [`AllocError`] if memory runs out, or the source nests too deep; nothing is kept.
-fn damaged_place(alloc: Global, source: &str) -> Result<Option<FluentPlace>, AllocError>
+/// [`AllocError`] if memory runs out; nothing is kept.
+fn damaged_place(
+    alloc: Global,
+    source: &str,
+    errors: &[ParserError],
+) -> Result<Option<FluentPlace>, AllocError>
+    requires { AreTold errors.now (tiling.errors (plain source.now)) }
     ensures { IfOk result (λ place. option_map place_told place ≡ damaged_place source.now) }
 {
     let text = with_line_feeds(alloc, without_mark(source))?;
-    place_in(alloc, text.as_str())
+    Ok(first_place(text.as_str(), errors))
 }
 
-/// Where a source without a byte order mark and with LF line ends can't be read, if there is such a place: the first.
+/// The errors of a source, as tidying reads it.
 ///
 /// # Errors
 /// [`AllocError`] if memory runs out, or the source nests too deep; nothing is kept.
-fn place_in(alloc: Global, source: &str) -> Result<Option<FluentPlace>, AllocError>
-    ensures { IfOk result (λ place. option_map place_told place
-        ≡ first_place source.now (errors source.now)) }
+fn read_errors(alloc: Global, source: &str) -> Result<Vec<ParserError>, AllocError>
+    ensures { IfOk result (λ found. AreTold found.items (tiling.errors (plain source.now))) }
 {
-    match parse_within(alloc, source, StackBudget::THREAD) {
-        Ok(_) => Ok(None),
-        Err(Error::Broken(_, errors)) => Ok(first_place(source, &errors)),
+    let text = with_line_feeds(alloc, without_mark(source))?;
+    match parse_within(alloc, text.as_str(), StackBudget::THREAD) {
+        Ok(_) => Ok(Vec::new(alloc)),
+        Err(Error::Broken(_, errors)) => Ok(errors),
         Err(Error::Memory) => Err(AllocError),
     }
 }
@@ -94,30 +102,45 @@ pub extern "C" fn fluent_tidy(
     let Ok(source) = from_utf8(text) else {
         return FLUENT_NOT_UTF8;
     };
-    match damaged_place(alloc, source) {
-        Ok(None) => put_tidied(alloc, source, made),
-        Ok(Some(found)) => {
-            *place = found;
-            FLUENT_DAMAGED
-        }
+    match tidy_within(alloc, source, StackBudget::THREAD) {
+        Ok(text) => put_text(alloc, text, made),
+        Err(TidyError::Damaged(errors)) => put_damage(alloc, source, &errors, place),
+        Err(TidyError::CarriageReturn) => put_damage_before(alloc, source, place),
+        Err(TidyError::NotTidy(_)) => FLUENT_NOT_TIDY,
+        Err(TidyError::Memory) => FLUENT_NO_MEMORY,
+    }
+}
+
+/// Puts the place where a source is damaged, if it is, that has a carriage return alone: a place
+/// says more. It returns what [`put_damage`] does.
+fn put_damage_before(alloc: Global, source: &str, place: &mut FluentPlace) -> u32
+    ensures decided { CanBeDamaged source.now result }
+    ensures damaged { result ≡ FLUENT_DAMAGED → IsDamagedAt source.now place.new }
+    ensures same_place { result ≢ FLUENT_DAMAGED → place.new ≡ place.old }
+{
+    match read_errors(alloc, source) {
+        Ok(errors) => put_damage(alloc, source, &errors, place),
         Err(_) => FLUENT_NO_MEMORY,
     }
 }
 
-/// Puts the tidy text of a source that can be read whole in the place of a text. It returns what [`fluent_tidy`] does.
-fn put_tidied(alloc: Global, source: &str, made: &mut FluentText) -> u32
-    requires { damaged_place source.now ≡ None }
-    ensures status { Tidies source.now result }
-    ensures not_damaged { result ≢ FLUENT_DAMAGED }
-    ensures tidy { result ≡ FLUENT_READ → HoldsTidy source.now made.new }
-    ensures unchanged { result ≢ FLUENT_READ → made.new ≡ made.old }
+/// Puts the place of the first of the errors of a source. It returns [`FLUENT_DAMAGED`],
+/// [`FLUENT_CARRIAGE_RETURN`] if there are no errors, or [`FLUENT_NO_MEMORY`] if memory runs out. The
+/// place is unchanged unless it returns [`FLUENT_DAMAGED`].
+#[tactic(auto, using(crate::proofs::Damage::none_damaged))]
+fn put_damage(alloc: Global, source: &str, errors: &[ParserError], place: &mut FluentPlace) -> u32
+    requires { AreTold errors.now (tiling.errors (plain source.now)) }
+    ensures decided { CanBeDamaged source.now result }
+    ensures damaged { result ≡ FLUENT_DAMAGED → IsDamagedAt source.now place.new }
+    ensures same_place { result ≢ FLUENT_DAMAGED → place.new ≡ place.old }
 {
-    match tidy(alloc, source) {
-        Ok(text) => put_text(alloc, text, made),
-        Err(TidyError::CarriageReturn) => FLUENT_CARRIAGE_RETURN,
-        Err(TidyError::NotTidy) => FLUENT_NOT_TIDY,
-        Err(TidyError::Damaged) => unreachable!(),
-        Err(TidyError::Memory) => FLUENT_NO_MEMORY,
+    match damaged_place(alloc, source, errors) {
+        Ok(Some(found)) => {
+            *place = found;
+            FLUENT_DAMAGED
+        }
+        Ok(None) => FLUENT_CARRIAGE_RETURN,
+        Err(_) => FLUENT_NO_MEMORY,
     }
 }
 
