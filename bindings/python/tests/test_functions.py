@@ -72,6 +72,18 @@ class FunctionsTest(unittest.TestCase):
             bundle.format("plain", "title")
         self.assertIn("settings", bundle)
 
+    def test_what_a_bundle_has_is_the_same_with_functions(self):
+        plain = Bundle(SOURCE, isolating=False)
+        self.addCleanup(plain.close)
+        bundle = self.bundle(SHOW=repr, ADD=sum)
+        for id in ("settings", "date", "plain", "gone", "SHOW", "NUMBER"):
+            self.assertEqual((id in bundle, bundle.has_message(id)), (id in plain, plain.has_message(id)))
+        self.assertEqual(("date", "title") in bundle, True)
+        self.assertEqual(bundle.messages(), plain.messages())
+        self.assertEqual(bundle.attributes("date"), ["title"])
+        self.assertEqual(bundle.variables("date"), ["day"])
+        self.assertEqual(bundle.format("gone", gone="a").text, "'a'")
+
     def test_answers_are_asked_for_as_without_functions(self):
         """If there is the extension it asks, and not ctypes."""
         bundle = self.bundle(SHOW=repr)
