@@ -397,6 +397,8 @@ uint32_t fluent_bundle_format(
 
 /* Makes a bundle whose messages call functions of your program, as `{ PLATFORM() }` does: fluent_bundle_new_with, and the
  * names of the functions. Format its messages by fluent_bundle_call; by fluent_bundle_format the functions are unknown.
+ * fluent_bundle_format, and the calls that list messages, attributes or variables, make an index without the functions when the
+ * first of them is called, and keep it: it takes memory and time as the bundle itself did, without the reading.
  *
  * A name that is the id of a message or a term of the sources, or NUMBER, is no function. The names are copied. The call returns
  * the numbers of fluent_bundle_new_with, and FLUENT_NOT_UTF8, too, if a name isn't UTF-8. `functions` needs a pointer that

@@ -210,8 +210,8 @@ class Bundle:
         """
         if self._warns:
             self._warn()
-        ask = self._call if self._functions else self._calls.format if self._calls else self._format
-        answered = ask(id, attribute, arguments, self._formatter)
+        ask = self._calls.format if self._calls else self._format
+        answered = ask(id, attribute, arguments, self._formatter, self._functions)
         if isinstance(answered, Answer):
             return answered
         if answered in (c.NO_MESSAGE, c.NO_PATTERN):
@@ -219,55 +219,48 @@ class Bundle:
         self._refuse(answered, f"the answer to {id!r}")
 
     def _format(
-        self, id: str, attribute: str | None, arguments: dict[str, object], formatter: Formatter, /
+        self,
+        id: str,
+        attribute: str | None,
+        arguments: dict[str, object],
+        formatter: Formatter,
+        functions: Functions,
+        /,
     ) -> Answer | int:
-        """An answer, or the status of the library if there is none. The extension has it too."""
-        key = encoded(id, "the id")
-        name = b"" if attribute is None else encoded(attribute, "the name of the attribute")
-        array, count = arguments_of(arguments, formatter)
-        # An answer that comes up meanwhile, in a signal handler or another thread, has other texts.
-        try:
-            texts = self._spare.pop()
-        except IndexError:
-            texts = _Texts()
-        with self._lock:
-            answered: int = c.library.fluent_bundle_format(
-                self._handle, key, len(key), name, len(name), array, count, texts.text, texts.errors
-            )
-        if answered != c.READ:
-            return answered
-        errors = resolver_errors(c.string_of(texts.errors)) if texts.errors.held else []
-        answer = Answer(c.string_of(texts.text), errors)
-        self._spare.append(texts)
-        return answer
+        """An answer, or the status of the library if there is none. The extension has it too.
 
-    def _call(
-        self, id: str, attribute: str | None, arguments: dict[str, object], formatter: Formatter, /
-    ) -> Answer | int:
-        """The same of a bundle with functions, which are called until each call that the answer meets has an answer."""
+        Functions are called until each call that the answer meets has an answer.
+        """
         key = encoded(id, "the id")
         name = b"" if attribute is None else encoded(attribute, "the name of the attribute")
         array, count = arguments_of(arguments, formatter)
-        answers = Answers(self._functions, formatter)
+        answers = Answers(functions, formatter) if functions else None
+        # An answer that comes up meanwhile, in a function, a signal handler or another thread, has other texts.
         try:
             texts = self._spare.pop()
         except IndexError:
             texts = _Texts()
         while True:
-            given, number = c.arguments(answers.given)
             with self._lock:
-                answered: int = c.library.fluent_bundle_call(
-                    self._handle, key, len(key), name, len(name), array, count, given, number,
-                    texts.text, texts.errors, texts.call,
-                )
-            if answered != c.CALL:
+                answered: int
+                if answers is None:
+                    answered = c.library.fluent_bundle_format(
+                        self._handle, key, len(key), name, len(name), array, count, texts.text, texts.errors
+                    )
+                else:
+                    answered = c.library.fluent_bundle_call(
+                        self._handle, key, len(key), name, len(name), array, count, *answers.given(),
+                        texts.text, texts.errors, texts.call,
+                    )
+            if answers is None or answered != c.CALL:
                 break
-            # A function may ask the bundle.
             answers.add(c.string_of(texts.call))
         if answered != c.READ:
             return answered
         errors = resolver_errors(c.string_of(texts.errors)) if texts.errors.held else []
-        answer = Answer(c.string_of(texts.text), answers.errors + errors)
+        if answers is not None:
+            errors = answers.errors + errors
+        answer = Answer(c.string_of(texts.text), errors)
         self._spare.append(texts)
         return answer
 

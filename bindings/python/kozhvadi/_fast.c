@@ -16,10 +16,12 @@
 /* What is found once: calls of the library, and what is in Python. */
 struct Found {
     __typeof__(&fluent_bundle_format) format;
+    __typeof__(&fluent_bundle_call) call;
     __typeof__(&fluent_bundle_has) has;
     __typeof__(&fluent_free_text) free_text;
     newfunc new_tuple;
     PyObject *answer;
+    PyObject *answers;
     PyObject *resolver_errors;
     PyObject *kind_and_text;
     PyObject *encoded;
@@ -36,6 +38,7 @@ struct Calls {
     struct FluentBundle *bundle;
     struct FluentText text;
     struct FluentText errors;
+    struct FluentText call;
 };
 
 /* Arguments, and the objects that have their names and texts. */
@@ -159,9 +162,21 @@ static PyObject *string_of(const struct FluentText *text) {
     return PyUnicode_FromStringAndSize(text->len ? (const char *)text->bytes : "", (Py_ssize_t)text->len);
 }
 
-/* An answer of a text and of the lines of its errors, which are NULL if there are none. */
-static PyObject *answer_of(struct Found *found, PyObject *text, PyObject *lines) {
+/* The errors of functions, and those of lines, which are NULL if there are none. */
+static PyObject *errors_of(struct Found *found, PyObject *functions, PyObject *lines) {
     PyObject *errors = lines ? PyObject_CallFunctionObjArgs(found->resolver_errors, lines, NULL) : PyList_New(0);
+    if (!errors || !functions)
+        return errors;
+    PyObject *raised = PyObject_GetAttrString(functions, "errors");
+    PyObject *all = raised ? PySequence_Concat(raised, errors) : NULL;
+    Py_XDECREF(raised);
+    Py_DECREF(errors);
+    return all;
+}
+
+/* An answer of a text and of its errors. */
+static PyObject *answer_of(struct Found *found, PyObject *functions, PyObject *text, PyObject *lines) {
+    PyObject *errors = errors_of(found, functions, lines);
     PyObject *fields = errors ? PyTuple_Pack(2, text, errors) : NULL;
     PyObject *arguments = fields ? PyTuple_Pack(1, fields) : NULL;
     PyObject *made = arguments ? found->new_tuple((PyTypeObject *)found->answer, arguments, NULL) : NULL;
@@ -188,42 +203,128 @@ static bool names_of(struct Found *found, PyObject *const *given, struct Names *
             || bytes_of(found, given[1], "the name of the attribute", NULL, &names->attribute, &names->attribute_len));
 }
 
-/* Asks the library under the lock: an answer, or the status if there is none. */
-static PyObject *ask(struct Calls *calls, const struct Names *names, const struct Arguments *arguments) {
-    PyObject *text = NULL, *lines = NULL, *made = NULL;
-    if (!lock(calls->acquire))
-        return NULL;
-    uint32_t answered = calls->found->format(
+/* The answers to the calls that a message met. */
+struct Answers {
+    /* Whether messages call functions. */
+    bool are_asked_for;
+    /* What calls the functions and holds the texts of the answers, from the first call on. */
+    PyObject *functions;
+    Py_ssize_t count;
+    struct FluentArgument *list;
+};
+
+static void free_answers(struct Answers *answers) {
+    Py_XDECREF(answers->functions);
+    PyMem_Free(answers->list);
+}
+
+/* Makes room for one more answer, and what calls the functions if this is the first. */
+static bool make_ready(struct Found *found, PyObject *functions, PyObject *formatter, struct Answers *answers) {
+    size_t size = ((size_t)answers->count + 1) * sizeof *answers->list;
+    struct FluentArgument *list = PyMem_Realloc(answers->list, size);
+    if (!list) {
+        PyErr_NoMemory();
+        return false;
+    }
+    answers->list = list;
+    if (!answers->functions)
+        answers->functions = PyObject_CallFunctionObjArgs(found->answers, functions, formatter, NULL);
+    return answers->functions != NULL;
+}
+
+/* Calls the function of a call, by its text, and keeps the answer. */
+static bool add_answer(struct Answers *answers, PyObject *call) {
+    const char *name, *text;
+    Py_ssize_t name_len, text_len;
+    uint32_t kind;
+    PyObject *made = PyObject_CallMethod(answers->functions, "add", "O", call);
+    bool is_made = made && PyArg_ParseTuple(made, "y#Iy#", &name, &name_len, &kind, &text, &text_len);
+    if (is_made)
+        answers->list[answers->count++] = (struct FluentArgument){
+            .name = (const uint8_t *)name, .name_len = (size_t)name_len, .text = (const uint8_t *)text,
+            .text_len = (size_t)text_len, .kind = kind};
+    Py_XDECREF(made);
+    return is_made;
+}
+
+/* What the library says: its status, and if there is an answer its text and the lines of its errors, or NULL; or the text of a
+ * call. */
+struct Said {
+    uint32_t status;
+    PyObject *text;
+    PyObject *lines;
+};
+
+/* Asks the library: the status. */
+static uint32_t status_of(
+    struct Calls *calls, const struct Names *names, const struct Arguments *arguments, const struct Answers *answers) {
+    if (!answers->are_asked_for)
+        return calls->found->format(
+            calls->bundle, names->id, names->id_len, names->attribute, names->attribute_len, arguments->list,
+            (size_t)arguments->count, &calls->text, &calls->errors);
+    /* The library takes an address for none, too. */
+    const struct FluentArgument *list = answers->list ? answers->list : arguments->list;
+    return calls->found->call(
         calls->bundle, names->id, names->id_len, names->attribute, names->attribute_len, arguments->list,
-        (size_t)arguments->count, &calls->text, &calls->errors);
-    bool has_lines = answered == FLUENT_READ && calls->errors.held;
-    if (answered == FLUENT_READ)
-        text = string_of(&calls->text);
+        (size_t)arguments->count, list, (size_t)answers->count, &calls->text, &calls->errors, &calls->call);
+}
+
+/* Asks the library under the lock. Whatever comes back, what it says is to be freed. */
+static bool ask(
+    struct Calls *calls, const struct Names *names, const struct Arguments *arguments, const struct Answers *answers,
+    struct Said *said) {
+    said->text = said->lines = NULL;
+    if (!lock(calls->acquire))
+        return false;
+    said->status = status_of(calls, names, arguments, answers);
+    bool is_answer = said->status == FLUENT_READ, is_call = said->status == FLUENT_CALL;
+    bool has_lines = is_answer && calls->errors.held;
+    if (is_answer || is_call)
+        said->text = string_of(is_call ? &calls->call : &calls->text);
     if (has_lines)
-        lines = string_of(&calls->errors);
+        said->lines = string_of(&calls->errors);
     bool is_free = lock(calls->release);
-    if (is_free && answered != FLUENT_READ)
-        made = PyLong_FromUnsignedLong(answered);
-    else if (is_free && text && (lines || !has_lines))
-        made = answer_of(calls->found, text, lines);
-    Py_XDECREF(text);
-    Py_XDECREF(lines);
+    return is_free && (said->text || !(is_answer || is_call)) && (said->lines || !has_lines);
+}
+
+/* An answer, or the status if there is none. Functions are called until each call that the answer meets has an answer: they
+ * may ask the bundle. */
+static PyObject *answered(
+    struct Calls *calls, const struct Names *names, const struct Arguments *arguments, PyObject *functions,
+    PyObject *formatter) {
+    struct Answers answers = {.are_asked_for = PyDict_Size(functions) > 0};
+    struct Said said;
+    bool is_said;
+    while ((is_said = ask(calls, names, arguments, &answers, &said)) && said.status == FLUENT_CALL) {
+        is_said = make_ready(calls->found, functions, formatter, &answers) && add_answer(&answers, said.text);
+        Py_CLEAR(said.text);
+        if (!is_said)
+            break;
+    }
+    PyObject *made = NULL;
+    if (is_said && said.status == FLUENT_READ)
+        made = answer_of(calls->found, answers.functions, said.text, said.lines);
+    else if (is_said)
+        made = PyLong_FromUnsignedLong(said.status);
+    Py_XDECREF(said.text);
+    Py_XDECREF(said.lines);
+    free_answers(&answers);
     return made;
 }
 
-/* format(id, attribute, arguments, formatter): an answer, or the status if there is none. */
+/* format(id, attribute, arguments, formatter, functions): an answer, or the status if there is none. */
 static PyObject *format(PyObject *self, PyObject *const *given, Py_ssize_t count) {
     struct Calls *calls = (struct Calls *)self;
     struct Names names;
     struct Arguments arguments;
-    if (count != 4 || !calls->found->answer) {
-        PyErr_SetString(PyExc_TypeError, "format takes four arguments, before Python ends");
+    if (count != 5 || !calls->found->answer) {
+        PyErr_SetString(PyExc_TypeError, "format takes five arguments, before Python ends");
         return NULL;
     }
     if (!names_of(calls->found, given, &names))
         return NULL;
     bool are_taken = arguments_of(calls->found, given[2], given[3], &arguments);
-    PyObject *made = are_taken ? ask(calls, &names, &arguments) : NULL;
+    PyObject *made = are_taken ? answered(calls, &names, &arguments, given[4], given[3]) : NULL;
     free_arguments(&arguments);
     return made;
 }
@@ -274,6 +375,7 @@ static void free_calls(PyObject *self) {
     PyTypeObject *type = Py_TYPE(self);
     calls->found->free_text(&calls->text);
     calls->found->free_text(&calls->errors);
+    calls->found->free_text(&calls->call);
     Py_XDECREF(calls->acquire);
     Py_XDECREF(calls->release);
     Py_DECREF(calls->owner);
@@ -323,9 +425,11 @@ static int fill_module(PyObject *module) {
     struct Found *found = PyModule_GetState(module);
     found->new_tuple = (newfunc)PyType_GetSlot(&PyTuple_Type, Py_tp_new);
     if (!(found->format = (__typeof__(found->format))address_of("fluent_bundle_format"))
+        || !(found->call = (__typeof__(found->call))address_of("fluent_bundle_call"))
         || !(found->has = (__typeof__(found->has))address_of("fluent_bundle_has"))
         || !(found->free_text = (__typeof__(found->free_text))address_of("fluent_free_text"))
         || !(found->answer = attribute_of("kozhvadi._answers", "Answer"))
+        || !(found->answers = attribute_of("kozhvadi._functions", "Answers"))
         || !(found->resolver_errors = attribute_of("kozhvadi._answers", "resolver_errors"))
         || !(found->kind_and_text = attribute_of("kozhvadi._values", "kind_and_text"))
         || !(found->encoded = attribute_of("kozhvadi._values", "encoded")))
@@ -341,6 +445,7 @@ static int fill_module(PyObject *module) {
 static int visit_module(PyObject *module, visitproc visit, void *arg) {
     struct Found *found = PyModule_GetState(module);
     Py_VISIT(found->answer);
+    Py_VISIT(found->answers);
     Py_VISIT(found->resolver_errors);
     Py_VISIT(found->kind_and_text);
     Py_VISIT(found->encoded);
@@ -350,6 +455,7 @@ static int visit_module(PyObject *module, visitproc visit, void *arg) {
 static int clear_module(PyObject *module) {
     struct Found *found = PyModule_GetState(module);
     Py_CLEAR(found->answer);
+    Py_CLEAR(found->answers);
     Py_CLEAR(found->resolver_errors);
     Py_CLEAR(found->kind_and_text);
     Py_CLEAR(found->encoded);

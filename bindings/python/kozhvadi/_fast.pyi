@@ -2,11 +2,18 @@ import ctypes
 import threading
 
 from ._answers import Answer
+from ._functions import Functions
 from ._values import Formatter
 
 class Calls:
     def __new__(cls, address: int, bundle: ctypes.Structure, lock: threading.RLock, /) -> Calls: ...
     def format(
-        self, id: str, attribute: str | None, arguments: dict[str, object], formatter: Formatter, /
+        self,
+        id: str,
+        attribute: str | None,
+        arguments: dict[str, object],
+        formatter: Formatter,
+        functions: Functions,
+        /,
     ) -> Answer | int: ...
     def has(self, id: str, attribute: str | None, /) -> int: ...

@@ -11,13 +11,15 @@ from typing import Any, Union
 
 from . import _library as c
 from ._errors import ResolverError, raised_by
-from ._values import Formatter, encoded, kind_and_text
+from ._values import NO_ARGUMENTS, Formatter, encoded, kind_and_text
 
 # What functions are called with: texts, numbers, and `None` for what has no value.
 Argument = Union[str, int, Decimal, None]
 
 Functions = Mapping[str, Callable[..., Any]]
 
+# An answer: the text of its call in UTF-8, its kind, and its own text in UTF-8.
+Made = tuple[bytes, int, bytes]
 
 # A name that a message can call.
 _NAME = re.compile(r"[A-Z][A-Z0-9_-]*")
@@ -62,11 +64,20 @@ class Answers:
 
     def __init__(self, functions: Functions, formatter: Formatter) -> None:
         self._functions, self._formatter = functions, formatter
-        self.given: list[c.FluentArgument] = []
+        self._made: list[Made] = []
         self.errors: list[ResolverError] = []
 
-    def add(self, call: str) -> None:
-        """Calls the function of a call, by its text. A call has no value if there is no answer that can be shown."""
+    def given(self) -> c.Arguments:
+        """The answers, as the library takes them."""
+        if not self._made:
+            return NO_ARGUMENTS
+        return c.arguments([c.FluentArgument(key, len(key), data, len(data), 0, 0, kind) for key, kind, data in self._made])
+
+    def add(self, call: str) -> Made:
+        """Calls the function of a call, by its text, and keeps the answer.
+
+        A call has no value if there is no answer that can be shown.
+        """
         key, (name, positional, named) = call.encode(), json.loads(call)
         kind, data = c.NO_VALUE, b""
         _nesting.depth += 1
@@ -79,7 +90,9 @@ class Answers:
             self.errors.append(raised_by(name, error))
         finally:
             _nesting.depth -= 1
-        self.given.append(c.FluentArgument(key, len(key), data, len(data), 0, 0, kind))
+        made = (key, kind, data)
+        self._made.append(made)
+        return made
 
     def _answer(self, name: str, positional: list[Any], named: dict[str, Any]) -> tuple[int, bytes]:
         """The kind of an answer and its text in UTF-8."""

@@ -134,11 +134,12 @@ def _argument(name: str, value: object, formatter: Formatter) -> c.FluentArgumen
     return c.FluentArgument(key, len(key), data, len(data), 0, 0, kind)
 
 
-_NONE = c.arguments([])
+# No arguments, as the library takes them.
+NO_ARGUMENTS = c.arguments([])
 
 
 def arguments_of(arguments: Mapping[str, object], formatter: Formatter) -> c.Arguments:
     """Arguments by their names, as the library takes them."""
     if not arguments:
-        return _NONE
+        return NO_ARGUMENTS
     return c.arguments([_argument(name, value, formatter) for name, value in arguments.items()])

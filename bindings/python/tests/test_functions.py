@@ -72,6 +72,41 @@ class FunctionsTest(unittest.TestCase):
             bundle.format("plain", "title")
         self.assertIn("settings", bundle)
 
+    def test_what_a_bundle_has_is_the_same_with_functions(self):
+        plain = Bundle(SOURCE, isolating=False)
+        self.addCleanup(plain.close)
+        bundle = self.bundle(SHOW=repr, ADD=sum)
+        for id in ("settings", "date", "plain", "gone", "SHOW", "NUMBER"):
+            self.assertEqual((id in bundle, bundle.has_message(id)), (id in plain, plain.has_message(id)))
+        self.assertEqual(("date", "title") in bundle, True)
+        self.assertEqual(bundle.messages(), plain.messages())
+        self.assertEqual(bundle.attributes("date"), ["title"])
+        self.assertEqual(bundle.variables("date"), ["day"])
+        self.assertEqual(bundle.format("gone", gone="a").text, "'a'")
+
+    def test_answers_are_asked_for_as_without_functions(self):
+        """If there is the extension it asks, and not ctypes."""
+        bundle = self.bundle(SHOW=repr)
+        if bundle._calls is None:
+            self.skipTest("there is no extension")
+        bundle._format = None
+        self.assertEqual(bundle.format("plain", n=1).text, "Plain 1")
+        self.assertEqual(bundle.format("gone", gone="a").text, "'a'")
+
+    def test_answers_that_are_not_kept(self):
+        """Neither an exception that isn't an error nor a function that closes the bundle leaves anything behind."""
+        def stop(_):
+            raise KeyboardInterrupt
+
+        bundle = self.bundle(SHOW=stop)
+        for _ in range(3):
+            with self.assertRaises(KeyboardInterrupt):
+                bundle.format("gone", gone="a")
+        self.assertEqual(bundle.format("plain", n=1).text, "Plain 1")
+        bundle = self.bundle(SHOW=lambda _: bundle.close())
+        with self.assertRaisesRegex(FluentError, "closed"):
+            bundle.format("gone", gone="a")
+
     def test_functions_that_are_not_there(self):
         answer = self.bundle(SHOW=repr).format("settings")
         self.assertEqual((answer.text, [str(error) for error in answer.errors]), ("{PREFERENCES()}", ["Unknown function: PREFERENCES()"]))

@@ -109,6 +109,14 @@ impl<'b, 'r, 's, M: MemoizerKind> FunctionDesk<'b, 'r, 's, M> {
         self.ids.has_message(id)
     }
 
+    /// Whether a message has a value, or an attribute of a name.
+    pub fn has(&self, id: &str, attribute: Option<&str>) -> bool
+        ensures { result ≡ is_some
+            (pattern_asked (option_copied attribute.entry) (find (desk_ids self.now) id.now)) }
+    {
+        self.pattern_named(id, attribute).is_some()
+    }
+
     /// What a message comes to for these arguments, with these answers by the calls' texts: its value, or its first attribute of
     /// a name. `None` if there is no such message, value or attribute. It is written into the memory of `text`, whose old bytes
     /// are lost.

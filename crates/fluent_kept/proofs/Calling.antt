@@ -1,6 +1,7 @@
 -- A desk with functions answers calls as the catalog does, and a text of it is a reply.
-use Rattle.std.proofs.Common.{◌≡◌, ℕ, Bool, List, [], ◌∷◌, ◌++◌, map, Option, None, Some, ap, refl, sym, ◌∙◌}
-use Rattle.std.specs.Prelude.{IsNone, IsSome, IsSomeAnd, option_map, string_bytes}
+use Rattle.std.proofs.Common.{◌≡◌, ℕ, Bool, List, [], ◌∷◌, ◌++◌, map, Option, None, Some, ap, refl, sym, subst, ◌∙◌}
+use Rattle.std.specs.Prelude.{IsNone, IsSome, IsSomeAnd, option_copied, option_map, string_bytes}
+use denote.Ref.{Bor}
 use Rattle.std.specs.List.{flat_map}
 use Rattle.fluent_answers.proofs.InTurn.{runtime_has_the_same_ids, entries_by_id-++}
 use Rattle.fluent_answers.specs.Answers.{told}
@@ -26,12 +27,17 @@ use Rattle.fluent_plurals.specs.Plurals.{plurals_by}
 use Rattle.fluent_plurals.specs.declared.plurals.LanguagePlurals.{LanguagePlurals}
 use Rattle.fluent_resource.specs.ResourceView.{entries_view}
 use Rattle.fluent_resource.specs.declared.resource.FluentResource.{FluentResource}
+use Rattle.fluent_run.specs.DeskView.{arguments_view}
 use Rattle.fluent_run.specs.ReplyView.{error_text, reply_of}
 use Rattle.fluent_run.specs.RunView.{no_text}
 use Rattle.fluent_serve.specs.Frames.{Reply}
 use Rattle.fluent_tidy_laws.specs.Joined.{lists}
 use Rattle.fluent_value.specs.Value.{Value}
-use Rattle.fluent_kept.specs.Catalogs.{Catalog, calling_in}
+use Rattle.fluent_value.specs.declared.args.FluentArgs.{FluentArgs}
+use Rattle.fluent_value.specs.declared.custom.NoCustom.{NoCustom}
+use Rattle.fluent_kept.specs.Answers.{IsCalled, IsCalledTo, IsReplyOrCall}
+use Rattle.fluent_kept.specs.Catalogs.{CallsAs, Catalog, calling_in, catalog_calling_by, catalog_environment}
+use Rattle.fluent_kept.specs.declared.question.Answer.{Answer}
 
 -- resources that were read of sources have the messages and terms of the sources, by their ids
 by_id-read : (rs : List FluentResource) (sources : List Text) → map entries_view rs ≡ map runtime_tree sources → flat_map by_id rs ≡ entries_by_id (lists sources)
@@ -92,3 +98,11 @@ reply-said env args (Some es) written is = ap Some (done-told (answer_written en
 pub call-said : {P : Type 0} (found : Option Elements) → IsSomeAnd found (λ es. P) → IsSome found × P
 call-said None is = absurd is
 call-said (Some es) is = (refl, is)
+
+-- the answer of a desk with functions is that of the catalog, whose messages call them
+pub called-as : (catalog : Catalog) (functions : Option (List Text)) (desk : FunctionDesk LanguagePlurals) (id : Text) (attribute : Option (Bor Text)) (arguments answers : FluentArgs NoCustom) (answer : Answer) →
+    IsSomeAnd functions (λ names. CallsAs names catalog desk) → IsCalledTo desk id attribute arguments answers answer →
+    IsReplyOrCall (catalog_environment catalog) (option_map (λ names. catalog_calling_by catalog names (arguments_view answers)) functions) id (option_copied attribute) (arguments_view arguments) (arguments_view answers) answer
+called-as catalog None desk id attribute arguments answers answer calls is = absurd calls
+called-as catalog (Some names) desk id attribute arguments answers answer calls is =
+    subst (λ env. IsCalled env id (option_copied attribute) (arguments_view arguments) (arguments_view answers) answer) (calls (arguments_view answers)) is

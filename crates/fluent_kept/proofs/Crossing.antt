@@ -31,6 +31,7 @@ use Rattle.fluent_value.specs.contracts.function.NoFunction as function
 use Rattle.fluent_kept.specs.Catalogs.{Catalog}
 use Rattle.fluent_kept.specs.Handle.{handle_owns}
 use Rattle.fluent_kept.specs.Kept.{lived, sources_row, resources_row, desk_row, some_boxed, some_lent, bundle_owns}
+use Rattle.fluent_kept.specs.contracts.desk.Desks as desks
 use Rattle.fluent_kept.specs.contracts.desk.KeptDesk as kept_desk
 use Rattle.fluent_kept.specs.contracts.resources.Resources as resources
 use Rattle.fluent_kept.proofs.sources.Sources.TheSendSync as sources
@@ -82,11 +83,33 @@ module _ (r s : NamedLft) where
   function_desk_send : IsSend (function_desk.the_row s r s plurals.the_row)
   function_desk_send = let a = calling_ids_send in let b = plurals_sync in let c = numerals_send in search (std.crosses, sendable) depth 60 fits 20000
 
-  functions_send : IsSend (option.the_field (function_desk.the_row s r s plurals.the_row)).row
-  functions_send = let a = function_desk_send in search sendable depth 40
+  plain_send : IsSend (option.the_field (run_desk.the_row s r s plurals.the_row)).row
+  plain_send = let a = run_desk_send in search sendable depth 40
+
+  run_desk_row_send : IsSend (run_desk.the_row s r s plurals.the_row)
+  run_desk_row_send = let a = ids_send in let b = plurals_sync in let c = numerals_send in let d = read_sync in search (std.crosses, sendable) depth 60 fits 20000
+
+  function_desk_field_send : IsSend (function_desk.the_field s r s plurals.the_row).row
+  function_desk_field_send = let a = calling_ids_send in let b = plurals_sync in let c = numerals_send in search (std.crosses, sendable) depth 60 fits 20000
+
+  plain_row_send : IsSend (option.the_row (run_desk.the_row s r s plurals.the_row))
+  plain_row_send = let a = run_desk_row_send in search sendable depth 40
+
+  desks_send : IsSend (desks.the_row r s)
+  desks_send =
+      let a = run_desk_send in let b = run_desk_row_send in let c = function_desk_send in let d = function_desk_field_send in let e = plain_send in let f = plain_row_send in
+      search sendable depth 60 fits 20000
+
+  desks_field_send : IsSend (desks.the_field r s).row
+  desks_field_send =
+      let a = run_desk_send in let b = run_desk_row_send in let c = function_desk_send in let d = function_desk_field_send in let e = plain_send in let f = plain_row_send in
+      search sendable depth 60 fits 20000
+
+  resources_sync : IsSync (resources.the_row s)
+  resources_sync = let a = std.Vec-sync (read.the_row s) read_sync in let b = sources_sync in search sendable depth 60 fits 20000
 
   pub desk_send : IsSend (kept_desk.the_row r s)
-  desk_send = let a = run_desk_send in let b = sources_sync in let c = functions_send in search sendable depth 60 fits 20000
+  desk_send = let a = desks_send in let b = resources_sync in let c = desks_field_send in search sendable depth 60 fits 20000
 
   read_send : IsSend (read.the_row s)
   read_send = search (std.crosses, knot.crosses, knot.crosses_both, sendable) depth 60 fits 20000

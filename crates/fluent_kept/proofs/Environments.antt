@@ -16,8 +16,8 @@ use Rattle.fluent_run.specs.DeskView.{desk_ids, ids_added}
 use Rattle.fluent_run.specs.RunView.{no_text}
 use Rattle.fluent_value.specs.Value.{error}
 use Rattle.fluent_value.specs.declared.function.NoFunction.{NoFunction}
-use Rattle.fluent_kept.specs.Catalogs.{Catalog, catalog_environment, catalog_ids, desk_environment}
-use Rattle.fluent_kept.specs.declared.desk.KeptDesk.{KeptDesk}
+use Rattle.fluent_kept.specs.Catalogs.{Catalog, catalog_environment, catalog_ids, plain_environment}
+use Rattle.fluent_run.specs.declared.desk.Desk.{Desk}
 
 -- an environment, by what makes it
 abbrev environment-of : Ids NoFunction → Bool → Option Locale → LanguagePlurals → Environment (Unit {0}) NoFunction
@@ -32,15 +32,15 @@ environment-of ids isolating numerals plurals = record {
 }
 
 -- the ids of what was read of a catalog stand for what the catalog's do
-pub ids-same : (desk : KeptDesk) (catalog : Catalog) (resources : List FluentResource) → map entries_view resources ≡ map runtime_tree catalog.sources →
-    desk_ids desk.desk ≡ ids_added catalog.settings.overriding resources → desk_ids desk.desk ≡ catalog_ids catalog
+pub ids-same : (desk : Desk LanguagePlurals) (catalog : Catalog) (resources : List FluentResource) → map entries_view resources ≡ map runtime_tree catalog.sources →
+    desk_ids desk ≡ ids_added catalog.settings.overriding resources → desk_ids desk ≡ catalog_ids catalog
 ids-same desk catalog resources read ids = ids ∙ ap (with_ids catalog.settings.overriding (number_pair ∷ [])) (all_by_id-read resources catalog.sources read)
 
-pub environment-same : (desk : KeptDesk) (catalog : Catalog) → desk_ids desk.desk ≡ catalog_ids catalog → desk.desk.plurals.now ≡ catalog.plurals → desk.desk.isolating ≡ catalog.settings.isolating →
-    option_map locale_view desk.desk.numerals ≡ catalog.settings.numerals →
-    desk_environment desk ≡ catalog_environment catalog
+pub environment-same : (desk : Desk LanguagePlurals) (catalog : Catalog) → desk_ids desk ≡ catalog_ids catalog → desk.plurals.now ≡ catalog.plurals → desk.isolating ≡ catalog.settings.isolating →
+    option_map locale_view desk.numerals ≡ catalog.settings.numerals →
+    plain_environment desk ≡ catalog_environment catalog
 environment-same desk catalog ids by isolating numerals =
-    ap (λ x. environment-of x desk.desk.isolating (option_map locale_view desk.desk.numerals) desk.desk.plurals.now) ids
-    ∙ ap (λ x. environment-of (catalog_ids catalog) x (option_map locale_view desk.desk.numerals) desk.desk.plurals.now) isolating
-    ∙ ap (λ x. environment-of (catalog_ids catalog) catalog.settings.isolating x desk.desk.plurals.now) numerals
+    ap (λ x. environment-of x desk.isolating (option_map locale_view desk.numerals) desk.plurals.now) ids
+    ∙ ap (λ x. environment-of (catalog_ids catalog) x (option_map locale_view desk.numerals) desk.plurals.now) isolating
+    ∙ ap (λ x. environment-of (catalog_ids catalog) catalog.settings.isolating x desk.plurals.now) numerals
     ∙ ap (λ x. environment-of (catalog_ids catalog) catalog.settings.isolating catalog.settings.numerals x) by

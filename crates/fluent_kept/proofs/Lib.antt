@@ -9,3 +9,4 @@ mod Environments
 mod Calling
 mod HandleMade
 mod Crossing
+mod Messages

@@ -1,5 +1,5 @@
 -- Which answers there are to a question.
-use Rattle.std.specs.Prelude.{◌≡◌, ℕ, List, Option, None, Some, IsNone, IsSome, option_copied, string_bytes}
+use Rattle.std.specs.Prelude.{◌≡◌, ℕ, Bool, true, false, List, Option, None, Some, IsNone, IsSome, option_copied, string_bytes}
 use denote.Ref.{Bor}
 use Rattle.fluent_answers.specs.Answers.{pattern_asked}
 use Rattle.fluent_calls.specs.Functions.{Table}
@@ -9,7 +9,7 @@ use Rattle.fluent_grammar.specs.Words.{Text}
 use Rattle.fluent_ids.specs.Found.{message_in}
 use Rattle.fluent_meaning.specs.Environment.{Environment}
 use Rattle.fluent_meaning.specs.Ids.{Ids, Meaning, find}
-use Rattle.fluent_run.specs.DeskView.{arguments_view, desk_ids, message_reply}
+use Rattle.fluent_run.specs.DeskView.{arguments_view, message_reply}
 use Rattle.fluent_run.specs.Listing.{attribute_lines, message_lines}
 use Rattle.fluent_run.specs.ReplyView.{reply_view}
 use Rattle.fluent_value.specs.Args.{argument}
@@ -18,7 +18,7 @@ use Rattle.fluent_value.specs.declared.args.FluentArgs.{FluentArgs}
 use Rattle.fluent_value.specs.declared.custom.NoCustom.{NoCustom}
 use Rattle.fluent_value.specs.declared.function.NoFunction.{NoFunction}
 use Rattle.fluent_check.specs.Report.{report_text}
-use Rattle.fluent_kept.specs.Catalogs.{Catalog, IsDeskOf, calling_in, catalog_calling, catalog_entries, catalog_environment, catalog_ids, catalog_of, desk_calling, desk_entries, desk_environment}
+use Rattle.fluent_kept.specs.Catalogs.{Catalog, ForIts, IsDeskOf, calling_in, catalog_calling, catalog_entries, catalog_environment, catalog_ids}
 use Rattle.fluent_kept.specs.Variables.{variable_lines}
 use Rattle.fluent_kept.specs.declared.desk.KeptDesk.{KeptDesk}
 use Rattle.fluent_kept.specs.declared.question.Answer.{Answer}
@@ -94,10 +94,18 @@ abbrev pub IsReplyOrCallTo : Environment (Unit {0}) NoFunction → (Table → Op
 IsReplyOrCallTo env calling id attribute arguments answers answer =
     IsReplyOrCall env (calling (arguments_view answers)) id (option_copied attribute) (arguments_view arguments) (arguments_view answers) answer
 
--- the same by what a desk has
+-- what a message gives, of whatever catalog a desk is one of
+abbrev pub IsFormatOf : KeptDesk → Text → Option (Bor Text) → FluentArgs NoCustom → Answer → Type 0
+IsFormatOf desk id attribute arguments answer = ForIts desk (λ catalog. IsReplyTo (catalog_environment catalog) id attribute arguments answer)
+
+-- whether there is what was asked for, of whatever catalog a desk is one of
+abbrev pub IsFoundBy : KeptDesk → Text → Option (Bor Text) → Answer → Type 0
+IsFoundBy desk id attribute answer = ForIts desk (λ catalog. IsFound (catalog_environment catalog) id (option_copied attribute) answer)
+
+-- what a message that may call functions gives, of whatever catalog a desk is one of
 abbrev pub IsCallOf : KeptDesk → Text → Option (Bor Text) → FluentArgs NoCustom → FluentArgs NoCustom → Answer → Type 0
 IsCallOf desk id attribute arguments answers answer =
-    IsReplyOrCallTo (desk_environment desk) (desk_calling desk) id attribute arguments answers answer
+    ForIts desk (λ catalog. IsReplyOrCallTo (catalog_environment catalog) (catalog_calling catalog) id attribute arguments answers answer)
 
 -- the ids of the messages among these entries, unless memory ran out
 abbrev pub AreMessages : Environment (Unit {0}) NoFunction → List (Text × Meaning NoFunction) → Answer → Type 0
@@ -154,9 +162,11 @@ IsAnswer env calling ids entries sources (question.Attributes id) answer = AreAt
 IsAnswer env calling ids entries sources (question.Variables id) answer = AreVariables ids id.now answer
 IsAnswer env calling ids entries sources question.Report answer = IsReport sources answer
 
--- the answer by what a desk has
-abbrev pub IsAnswerOf : KeptDesk → Question → Answer → Type 0
-IsAnswerOf desk = IsAnswer (desk_environment desk) (desk_calling desk) (desk_ids desk.desk) (desk_entries desk) (catalog_of desk.sources.now).sources
+-- the answer by whether there is what was asked for, and whether there is the message
+abbrev pub found : Bool → Bool → Answer
+found true has_message = answer.Found
+found false true = answer.NoPattern
+found false false = answer.NoMessage
 
 -- the answer of a catalog
 abbrev pub Answers : Catalog → Question → Answer → Type 0

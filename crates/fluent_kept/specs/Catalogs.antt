@@ -1,5 +1,6 @@
 -- What a bundle is made of, and what its parts are of that.
-use Rattle.std.specs.Prelude.{◌≡◌, ℕ, List, Option, map, option_and_then, option_map, vec_items, string_bytes}
+use Rattle.std.specs.Prelude.{◌≡◌, ℕ, List, Option, None, IfSome, IsSomeAnd, String, map, option_and_then, option_map, vec_items, string_bytes}
+use Rattle.std.specs.declared.alloc.Global.{Global}
 use Rattle.fluent_answers.specs.Sources.{Settings, environment_of, ids_of}
 use Rattle.fluent_calls.specs.DeskView as calls
 use Rattle.fluent_calls.specs.declared.desk.FunctionDesk.{FunctionDesk}
@@ -17,6 +18,9 @@ use Rattle.fluent_run.specs.ResourceIds.{all_by_id}
 use Rattle.fluent_run.specs.RunView.{no_text}
 use Rattle.fluent_tidy_laws.specs.Joined.{lists}
 use Rattle.fluent_value.specs.declared.function.NoFunction.{NoFunction}
+use Rattle.fluent_run.specs.declared.desk.Desk.{Desk}
+use Rattle.fluent_kept.specs.declared.desk.Desks.{Desks}
+use Rattle.fluent_kept.specs.declared.desk.Desks.TheVariants as desks
 use Rattle.fluent_kept.specs.declared.desk.KeptDesk.{KeptDesk}
 use Rattle.fluent_kept.specs.declared.resources.Resources.{Resources}
 use Rattle.fluent_kept.specs.declared.sources.Sources.{Sources}
@@ -48,19 +52,20 @@ abbrev pub catalog_environment : Catalog → Environment (Unit {0}) NoFunction
 catalog_environment c = environment_of (plurals_by c.plurals) no_text c.settings c.sources
 
 -- the same, by what a desk has
-abbrev pub desk_environment : KeptDesk → Environment (Unit {0}) NoFunction
-desk_environment desk = environment_in plurals_by (λ _ S text. text) desk.desk
+abbrev pub plain_environment : Desk LanguagePlurals → Environment (Unit {0}) NoFunction
+plain_environment desk = environment_in plurals_by (λ _ S text. text) desk
 
--- what stays the same while the catalog is asked for messages that call functions, with a table of answers
+-- what stays the same while the catalog is asked for messages that call functions of these names, with a table of answers
+abbrev pub catalog_calling_by : Catalog → List Text → Table → Environment (Unit {0}) ℕ
+catalog_calling_by c names table = calling_environment no_answer (plurals_by c.plurals) no_text c.settings c.sources names table
+
+-- the same, if messages call functions
 abbrev pub catalog_calling : Catalog → Table → Option (Environment (Unit {0}) ℕ)
-catalog_calling c table = option_map (λ names. calling_environment no_answer (plurals_by c.plurals) no_text c.settings c.sources names table) c.functions
+catalog_calling c table = option_map (λ names. catalog_calling_by c names table) c.functions
 
 -- the same, by what a desk with functions has
 abbrev pub calling_in : FunctionDesk LanguagePlurals → Table → Environment (Unit {0}) ℕ
 calling_in desk table = calls.environment_in plurals_by (λ _ S text. text) no_answer desk table
-
-abbrev pub desk_calling : KeptDesk → Table → Option (Environment (Unit {0}) ℕ)
-desk_calling desk table = option_map (λ d. calling_in d table) desk.functions
 
 -- what the ids of a catalog stand for
 abbrev pub catalog_ids : Catalog → Ids NoFunction
@@ -70,31 +75,56 @@ catalog_ids c = ids_of c.settings.overriding c.sources
 abbrev pub catalog_entries : Catalog → List (Text × Meaning NoFunction)
 catalog_entries c = entries_by_id (lists c.sources)
 
--- the same, by what a desk has
-abbrev pub desk_entries : KeptDesk → List (Text × Meaning NoFunction)
-desk_entries desk = all_by_id desk.desk.resources.now
-
 -- this was read of the catalog
 pub record IsReadOf (read : Resources) (catalog : Catalog) : Type 0 where
   pub sources : catalog_of read.sources.now ≡ catalog
   pub entries : map entries_view (vec_items read.list) ≡ map runtime_tree catalog.sources
 
--- this answers calls as a catalog does
-abbrev pub CallsAs : Option (FunctionDesk LanguagePlurals) → Catalog → Type 0
-CallsAs desk catalog = (table : Table) → option_map (λ d. calling_in d table) desk ≡ catalog_calling catalog table
+-- this answers as the catalog does, as if there were no functions
+pub record IsPlainOf (catalog : Catalog) (desk : Desk LanguagePlurals) : Type 0 where
+  pub environment : plain_environment desk ≡ catalog_environment catalog
+  pub ids : desk_ids desk ≡ catalog_ids catalog
+  pub entries : all_by_id desk.resources.now ≡ catalog_entries catalog
 
 -- this does, of whatever catalog it was that was read
-abbrev pub CallsFor : Resources → Option (FunctionDesk LanguagePlurals) → Type 0
-CallsFor read desk = (catalog : Catalog) → IsReadOf read catalog → CallsAs desk catalog
+abbrev pub IsPlainFor : Resources → Desk LanguagePlurals → Type 0
+IsPlainFor read desk = (catalog : Catalog) → IsReadOf read catalog → IsPlainOf catalog desk
+
+-- this answers so still, of whatever catalog it was that was read
+abbrev pub StaysPlain : Resources → Option (Desk LanguagePlurals) → Option (Desk LanguagePlurals) → Type 0
+StaysPlain read old new = (catalog : Catalog) → IsReadOf read catalog → IfSome old (IsPlainOf catalog) → IfSome new (IsPlainOf catalog)
+
+-- this answers calls of functions of these names as the catalog does
+abbrev pub CallsAs : List Text → Catalog → FunctionDesk LanguagePlurals → Type 0
+CallsAs names catalog desk = (table : Table) → calling_in desk table ≡ catalog_calling_by catalog names table
+
+-- this does, of whatever catalog it was that was read
+abbrev pub CallsFor : Resources → List (String Global) → FunctionDesk LanguagePlurals → Type 0
+CallsFor read names desk = (catalog : Catalog) → IsReadOf read catalog → CallsAs (map string_bytes names) catalog desk
+
+-- these answer as the catalog does
+abbrev pub AreDesksOf : Catalog → Desks → Type 0
+AreDesksOf catalog (desks.Plain desk) = (catalog.functions ≡ None) × IsPlainOf catalog desk
+AreDesksOf catalog (desks.Calling desk plain) =
+    IsSomeAnd catalog.functions (λ names. CallsAs names catalog desk) × IfSome plain (IsPlainOf catalog)
+
+-- these do, of whatever catalog it was that was read
+abbrev pub AreDesksFor : Resources → Desks → Type 0
+AreDesksFor read desks = (catalog : Catalog) → IsReadOf read catalog → AreDesksOf catalog desks
 
 -- this answers as the catalog does
 pub record IsDeskOf (desk : KeptDesk) (catalog : Catalog) : Type 0 where
-  pub sources : catalog_of desk.sources.now ≡ catalog
-  pub environment : desk_environment desk ≡ catalog_environment catalog
-  pub ids : desk_ids desk.desk ≡ catalog_ids catalog
-  pub entries : desk_entries desk ≡ catalog_entries catalog
-  pub calling : CallsAs desk.functions catalog
+  pub read : IsReadOf desk.read.now catalog
+  pub desks : AreDesksOf catalog desk.desks
 
 -- this does, of whatever catalog it was that was read
 pub record IsDeskFor (read : Resources) (desk : KeptDesk) : Type 0 where
   pub of_catalog : (catalog : Catalog) → IsReadOf read catalog → IsDeskOf desk catalog
+
+-- this holds of whatever catalog a desk is one of
+abbrev pub ForIts : KeptDesk → (Catalog → Type 0) → Type 0
+ForIts desk P = (catalog : Catalog) → IsDeskOf desk catalog → P catalog
+
+-- a desk answers as whatever catalog it was one of
+abbrev pub StaysDesk : KeptDesk → KeptDesk → Type 0
+StaysDesk old new = ForIts old (IsDeskOf new)

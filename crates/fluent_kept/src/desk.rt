@@ -1,10 +1,10 @@
 //! What answers questions, from what is read of sources.
 
-ghost use Rattle.std.specs.Prelude.{◌≡◌, IfOk, IfSome, option_copied, string_bytes};
+ghost use Rattle.std.specs.Prelude.{◌≡◌, IfOk, IfSome, string_bytes};
 ghost use Rattle.fluent_check.specs.Report.{report_text};
-ghost use Rattle.fluent_kept.specs.Catalogs.{CallsFor, IsDeskFor, catalog_of, desk_entries, desk_environment};
-ghost use Rattle.fluent_run.specs.DeskView.{desk_ids};
-ghost use Rattle.fluent_kept.specs.Answers.{AnswersAsIts, AreAttributes, AreMessages, AreVariables, IsAnswerOf, IsCallOf, IsCalledTo, IsFound, IsMissing, IsReplyTo};
+ghost use Rattle.fluent_run.specs.ResourceIds.{all_by_id};
+ghost use Rattle.fluent_kept.specs.Catalogs.{AreDesksFor, CallsFor, ForIts, IsDeskFor, IsPlainFor, IsPlainOf, StaysDesk, StaysPlain, catalog_entries, catalog_environment, catalog_ids, catalog_of, plain_environment};
+ghost use Rattle.fluent_kept.specs.Answers.{AnswersAsIts, AreAttributes, AreMessages, AreVariables, IsCallOf, IsCalledTo, IsFormatOf, IsFoundBy, IsReplyTo, found};
 
 use crate::loose::RawBox;
 use crate::question::{Answer, Question};
@@ -21,9 +21,40 @@ use std::alloc::{AllocError, Global};
 /// What answers questions. It refers to what was read, and to the sources.
 #[derive(Drop)]
 pub(crate) struct KeptDesk<'r, 's> {
-    sources: &'s Sources,
-    desk: Desk<'s, 'r, 's, LanguagePlurals>,
-    functions: Option<FunctionDesk<'s, 'r, 's, LanguagePlurals>>,
+    read: &'r Resources<'s>,
+    desks: Desks<'r, 's>,
+}
+
+/// What answers from the ids of the messages and terms.
+#[derive(Drop)]
+pub(crate) enum Desks<'r, 's> {
+    /// Messages call no functions.
+    Plain(Desk<'s, 'r, 's, LanguagePlurals>),
+    /// Messages call functions, which are among the ids. To what asks as if there were none, another desk answers: the first such
+    /// question makes it.
+    Calling(FunctionDesk<'s, 'r, 's, LanguagePlurals>, Option<Desk<'s, 'r, 's, LanguagePlurals>>),
+}
+
+impl<'r, 's> Desks<'r, 's> {
+    /// What answers from what was read.
+    ///
+    /// # Errors
+    /// [`AllocError`] if memory runs out; nothing is kept.
+    fn new(alloc: Global, read: &'r Resources<'s>) -> Result<Self, AllocError>
+        ensures { IfOk result (AreDesksFor read.now) }
+    {
+        let sources = read.sources;
+        match &sources.functions {
+            Some(names) => {
+                let desk = function_desk(alloc, read, names)?;
+                Ok(Desks::Calling(desk, None))
+            }
+            None => {
+                let desk = plain_desk(alloc, read)?;
+                Ok(Desks::Plain(desk))
+            }
+        }
+    }
 }
 
 impl<'r, 's> KeptDesk<'r, 's> {
@@ -34,23 +65,31 @@ impl<'r, 's> KeptDesk<'r, 's> {
     fn new(alloc: Global, read: &'r Resources<'s>) -> Result<Self, AllocError>
         ensures { IfOk result (IsDeskFor read.now) }
     {
-        let sources = read.sources;
-        let desk = Desk::new(
-            alloc,
-            &read.list,
-            sources.settings(),
-            &sources.plurals,
-            sources.stack,
-        )?;
-        let functions = function_desk(alloc, read)?;
-        Ok(KeptDesk {
-            sources,
-            desk,
-            functions,
-        })
+        let desks = Desks::new(alloc, read)?;
+        Ok(KeptDesk { read, desks })
     }
 
-    /// What a message gives for these arguments. The text is written into the memory of `spare`.
+    /// Makes what answers as if there were no functions, unless it is there, or memory runs out.
+    fn make_plain(&mut self, alloc: Global)
+        ensures { StaysDesk self.old self.new }
+    {
+        match &mut self.desks {
+            Desks::Plain(_) => {}
+            Desks::Calling(_, plain) => keep_plain(alloc, self.read, plain),
+        }
+    }
+
+    /// What answers as if there were no functions, if it is there.
+    fn plain(&self) -> Option<&Desk<'s, 'r, 's, LanguagePlurals>>
+        ensures { ForIts self.now (λ catalog. IfSome result (λ desk. IsPlainOf catalog desk.now)) }
+    {
+        match &self.desks {
+            Desks::Plain(desk) => Some(desk),
+            Desks::Calling(_, plain) => plain.as_ref(),
+        }
+    }
+
+    /// What a message gives for these arguments, as if there were no functions. The text is written into the memory of `spare`.
     fn format(
         &self,
         alloc: Global,
@@ -59,15 +98,11 @@ impl<'r, 's> KeptDesk<'r, 's> {
         arguments: &FluentArgs<'_, NoCustom>,
         spare: String,
     ) -> Answer
-        ensures { IsReplyTo (desk_environment self.now) id.now attribute.entry arguments.now result }
+        ensures { IsFormatOf self.now id.now attribute.entry arguments.now result }
     {
-        match self
-            .desk
-            .format_into(alloc, id, attribute, arguments, spare)
-        {
-            Ok(Some(reply)) => Answer::Reply(reply),
-            Ok(None) => self.missing(id),
-            Err(_) => Answer::Memory,
+        match self.plain() {
+            Some(desk) => formatted(desk, alloc, id, attribute, arguments, spare),
+            None => Answer::Memory,
         }
     }
 
@@ -84,60 +119,53 @@ impl<'r, 's> KeptDesk<'r, 's> {
     ) -> Answer
         ensures { IsCallOf self.now id.now attribute.entry arguments.now answers.now result }
     {
-        match &self.functions {
-            Some(desk) => called(desk, alloc, id, attribute, arguments, answers, spare),
-            None => self.format(alloc, id, attribute, arguments, spare),
+        match &self.desks {
+            Desks::Plain(desk) => formatted(desk, alloc, id, attribute, arguments, spare),
+            Desks::Calling(desk, _) => called(
+                desk, alloc, id, attribute, arguments, answers, spare,
+            ),
         }
     }
 
-    /// Why a message has nothing to give.
-    fn missing(&self, id: &str) -> Answer
-        ensures { IsMissing (desk_environment self.now) id.now result }
-    {
-        if self.desk.has_message(id) {
-            Answer::NoPattern
-        } else {
-            Answer::NoMessage
-        }
-    }
-
-    /// Whether a message has a value, or an attribute of a name.
+    /// Whether a message has a value, or an attribute of a name. It doesn't allocate.
     fn has(&self, id: &str, attribute: Option<&str>) -> Answer
-        ensures { IsFound (desk_environment self.now) id.now (option_copied attribute.entry) result }
+        ensures { IsFoundBy self.now id.now attribute.entry result }
     {
-        if self.desk.has(id, attribute) {
-            Answer::Found
-        } else {
-            self.missing(id)
+        match &self.desks {
+            Desks::Plain(desk) => found(desk.has(id, attribute), desk.has_message(id)),
+            Desks::Calling(desk, _) => found(desk.has(id, attribute), desk.has_message(id)),
         }
     }
 
     /// The ids of the messages.
     fn messages(&self, alloc: Global) -> Answer
-        ensures { AreMessages (desk_environment self.now) (desk_entries self.now) result }
+        ensures { ForIts self.now (λ catalog. AreMessages (catalog_environment catalog)
+            (catalog_entries catalog) result) }
     {
-        match self.desk.messages(alloc) {
-            Ok(text) => Answer::Names(text),
-            Err(_) => Answer::Memory,
+        match self.plain() {
+            Some(desk) => messages_of(desk, alloc),
+            None => Answer::Memory,
         }
     }
 
     /// The names of a message's attributes.
     fn attributes(&self, alloc: Global, id: &str) -> Answer
-        ensures { AreAttributes (desk_environment self.now) id.now result }
+        ensures { ForIts self.now (λ catalog. AreAttributes (catalog_environment catalog) id.now result) }
     {
-        match self.desk.attributes(alloc, id) {
-            Ok(Some(text)) => Answer::Names(text),
-            Ok(None) => Answer::NoMessage,
-            Err(_) => Answer::Memory,
+        match self.plain() {
+            Some(desk) => attributes_of(desk, alloc, id),
+            None => Answer::Memory,
         }
     }
 
     /// The variables that a message is shown with.
     fn variables(&self, alloc: Global, id: &str) -> Answer
-        ensures { AreVariables (desk_ids self.now.desk) id.now result }
+        ensures { ForIts self.now (λ catalog. AreVariables (catalog_ids catalog) id.now result) }
     {
-        variable_names(alloc, self.desk.ids(), id)
+        match self.plain() {
+            Some(desk) => variable_names(alloc, desk.ids(), id),
+            None => Answer::Memory,
+        }
     }
 
     /// What a check of the sources reports. It reads them whole, within the budget of the stack.
@@ -146,15 +174,16 @@ impl<'r, 's> KeptDesk<'r, 's> {
     /// [`AllocError`] if memory runs out, or the budget does; nothing is kept.
     fn report(&self, alloc: Global) -> Result<String, AllocError>
         ensures { IfOk result (λ text. string_bytes text
-            ≡ report_text (catalog_of self.now.sources.now).sources) }
+            ≡ report_text (catalog_of self.now.read.now.sources.now).sources) }
     {
-        let texts = borrow_texts(alloc, &self.sources.texts)?;
-        check_text(alloc, &texts, self.sources.stack)
+        let sources = self.read.sources;
+        let texts = borrow_texts(alloc, &sources.texts)?;
+        check_text(alloc, &texts, sources.stack)
     }
 
     /// The answer to a question.
-    fn answer(&self, alloc: Global, question: &Question<'_>) -> Answer
-        ensures { IsAnswerOf self.now question.now result }
+    fn answer(&mut self, alloc: Global, question: &Question<'_>) -> Answer
+        ensures { AnswersAsIts self.old self.new question.now result }
     {
         match question {
             Question::Format {
@@ -163,6 +192,7 @@ impl<'r, 's> KeptDesk<'r, 's> {
                 arguments,
                 spare,
             } => {
+                self.make_plain(alloc);
                 let spare = spare.replace(String::new(alloc));
                 self.format(alloc, *id, *attribute, arguments, spare)
             }
@@ -177,9 +207,18 @@ impl<'r, 's> KeptDesk<'r, 's> {
                 self.call(alloc, *id, *attribute, arguments, answers, spare)
             }
             Question::Has { id, attribute } => self.has(*id, *attribute),
-            Question::Messages => self.messages(alloc),
-            Question::Attributes { id } => self.attributes(alloc, *id),
-            Question::Variables { id } => self.variables(alloc, *id),
+            Question::Messages => {
+                self.make_plain(alloc);
+                self.messages(alloc)
+            }
+            Question::Attributes { id } => {
+                self.make_plain(alloc);
+                self.attributes(alloc, *id)
+            }
+            Question::Variables { id } => {
+                self.make_plain(alloc);
+                self.variables(alloc, *id)
+            }
             Question::Report => match self.report(alloc) {
                 Ok(text) => Answer::Report(text),
                 Err(_) => Answer::Memory,
@@ -188,30 +227,103 @@ impl<'r, 's> KeptDesk<'r, 's> {
     }
 }
 
-/// What answers if messages call functions, and `None` if they don't.
+/// What answers as if there were no functions.
+///
+/// # Errors
+/// [`AllocError`] if memory runs out; nothing is kept.
+fn plain_desk<'r, 's>(
+    alloc: Global,
+    read: &'r Resources<'s>,
+) -> Result<Desk<'s, 'r, 's, LanguagePlurals>, AllocError>
+    ensures { IfOk result (IsPlainFor read.now) }
+{
+    let sources = read.sources;
+    let desk = Desk::new(
+        alloc,
+        &read.list,
+        sources.settings(),
+        &sources.plurals,
+        sources.stack,
+    )?;
+    Ok(desk)
+}
+
+/// Makes what answers as if there were no functions, unless it is there, or memory runs out.
+fn keep_plain<'r, 's>(
+    alloc: Global,
+    read: &'r Resources<'s>,
+    plain: &mut Option<Desk<'s, 'r, 's, LanguagePlurals>>,
+)
+    ensures { StaysPlain read.now plain.old plain.new }
+{
+    if plain.is_some() {
+        return;
+    }
+    if let Ok(desk) = plain_desk(alloc, read) {
+        *plain = Some(desk);
+    }
+}
+
+/// What answers if messages call functions of these names.
 ///
 /// # Errors
 /// [`AllocError`] if memory runs out; nothing is kept.
 fn function_desk<'r, 's>(
     alloc: Global,
     read: &'r Resources<'s>,
-) -> Result<Option<FunctionDesk<'s, 'r, 's, LanguagePlurals>>, AllocError>
-    ensures { IfOk result (CallsFor read.now) }
+    names: &'s [String],
+) -> Result<FunctionDesk<'s, 'r, 's, LanguagePlurals>, AllocError>
+    ensures { IfOk result (CallsFor read.now names.now) }
 {
     let sources = read.sources;
-    match &sources.functions {
-        Some(names) => {
-            let desk = FunctionDesk::new(
-                alloc,
-                &read.list,
-                names,
-                sources.desk_settings(),
-                &sources.plurals,
-                sources.stack,
-            )?;
-            Ok(Some(desk))
-        }
-        None => Ok(None),
+    let desk = FunctionDesk::new(
+        alloc,
+        &read.list,
+        names,
+        sources.desk_settings(),
+        &sources.plurals,
+        sources.stack,
+    )?;
+    Ok(desk)
+}
+
+/// What a message gives for these arguments. The text is written into the memory of `spare`.
+fn formatted(
+    desk: &Desk<'_, '_, '_, LanguagePlurals>,
+    alloc: Global,
+    id: &str,
+    attribute: Option<&str>,
+    arguments: &FluentArgs<'_, NoCustom>,
+    spare: String,
+) -> Answer
+    ensures { IsReplyTo (plain_environment desk.now) id.now attribute.entry arguments.now result }
+{
+    match desk.format_into(alloc, id, attribute, arguments, spare) {
+        Ok(Some(reply)) => Answer::Reply(reply),
+        Ok(None) if desk.has_message(id) => Answer::NoPattern,
+        Ok(None) => Answer::NoMessage,
+        Err(_) => Answer::Memory,
+    }
+}
+
+/// The ids of the messages of a desk.
+fn messages_of(desk: &Desk<'_, '_, '_, LanguagePlurals>, alloc: Global) -> Answer
+    ensures { AreMessages (plain_environment desk.now) (all_by_id desk.now.resources.now) result }
+{
+    match desk.messages(alloc) {
+        Ok(text) => Answer::Names(text),
+        Err(_) => Answer::Memory,
+    }
+}
+
+/// The names of the attributes of a message of a desk.
+fn attributes_of(desk: &Desk<'_, '_, '_, LanguagePlurals>, alloc: Global, id: &str) -> Answer
+    ensures { AreAttributes (plain_environment desk.now) id.now result }
+{
+    match desk.attributes(alloc, id) {
+        Ok(Some(text)) => Answer::Names(text),
+        Ok(None) => Answer::NoMessage,
+        Err(_) => Answer::Memory,
     }
 }
 
@@ -233,6 +345,19 @@ fn called(
         Ok(None) if desk.has_message(id) => Answer::NoPattern,
         Ok(None) => Answer::NoMessage,
         Err(_) => Answer::Memory,
+    }
+}
+
+/// Whether there is what was asked for, by whether there is that and whether there is the message.
+fn found(has_pattern: bool, has_message: bool) -> Answer
+    ensures { result ≡ found has_pattern has_message }
+{
+    if has_pattern {
+        Answer::Found
+    } else if has_message {
+        Answer::NoPattern
+    } else {
+        Answer::NoMessage
     }
 }
 
