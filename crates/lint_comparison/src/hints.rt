@@ -8,7 +8,7 @@ ghost use Rattle.lint_finding.specs.DifferenceView.{difference_view};
 
 use lint_endless::Names;
 use lint_finding::Difference;
-use lint_flaws::{Hint, KnownNames, nearest};
+use lint_flaws::{KnownNames, near_hint};
 use std::alloc::{AllocError, Global};
 
 /// The hint of a difference, if the message of the reference is shown with these variables.
@@ -36,10 +36,7 @@ fn variable_hint(
 ) -> Result<Option<String>, AllocError>
     ensures { IfOk result (IsVariableHint variables.now name.now) }
 {
-    match nearest(alloc, &Variables { names: variables }, name)? {
-        Some(near) => Ok(Some(Hint::NearVariable(near).to_string(alloc)?)),
-        None => Ok(None),
-    }
+    near_hint(alloc, "$", &Variables { names: variables }, name)
 }
 
 /// The variables that a message is shown with.

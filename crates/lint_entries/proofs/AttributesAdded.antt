@@ -42,7 +42,7 @@ module _ (catalog : Catalog) (entry : EntryPoint) where
       let here = place_of_attribute entry name at in
       let others = attributes_found catalog entry (a.id ∷ before) as' in
       let taken_is : taken_found before name.now place ≡ taken a.id (skip_spaces s) =
-      ap (taken_found before name.now) placed ∙ or_false (is_among name.now before) (e.plain_warning ids reference catalog.plurals source (label_with entry name.now) at.now _ _)
+      ap (taken_found before name.now) placed ∙ or_false (is_among name.now before) (e.finding_in source (label_with entry name.now) at.now e.taken_remark)
       ∙ ap (λ n. taken n at.now) named ∙ ap (taken a.id) there in
       let found_is : pattern_found catalog place v a.value ≡ found a.id (skip_spaces s) =
       ap (λ p. pattern_found catalog p v a.value) placed ∙ ap (λ t. pattern_found catalog here t a.value) value

@@ -9,7 +9,7 @@ use Rattle.fluent_meaning.specs.Fallback.{inline_fallback}
 use Rattle.fluent_meaning.specs.Ids.{Ids, find}
 use Rattle.fluent_meaning.specs.Same.{same_key}
 use Rattle.lint_findings.specs.SyntaxErrors.{in_backticks}
-use Rattle.lint_findings.specs.FlawHints.{is_endless, never_ends, endless_hint}
+use Rattle.lint_findings.specs.FlawHints.{is_endless, never_ends, endless_hint, goes_on_text}
 use Rattle.lint_findings.specs.Nodes.{Node, expression, repeated_key, is_literal, elements_nodes, expression_nodes, variants_nodes, inline_nodes, maybe_nodes, arguments_nodes, inlines_nodes, nameds_nodes}
 use Rattle.lint_findings.specs.References.{reference_patterns, elements_references, expression_references, variants_references, inline_references, maybe_references, arguments_references, inlines_references, nameds_references}
 use Rattle.lint_endless.specs.Marks.{is_entered}
@@ -90,7 +90,7 @@ module _ (ids : Ids (Unit {0})) where
         both (inline_references e) (nameds_references ns) (if is_literal e then [] else inline_nodes e) (nameds_nodes ns) (literal_skipped e (inline_same e)) (nameds_same ns)
 
   abbrev pub goes : Text → Text
-  goes x = codes "they go on at " ++ in_backticks x
+  goes x = goes_on_text x
 
   hint_step : (b : Bool) (x : Text) (hint : Option Text) (later : Option Text) → hint ≡ option_map goes later → (if b then Some (goes x) else hint) ≡ option_map goes (first_or (if b then Some x else None) later)
   hint_step true x hint later h = refl

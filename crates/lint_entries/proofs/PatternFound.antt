@@ -7,8 +7,11 @@ use Rattle.fluent_grammar.specs.Refusal.{got}
 use Rattle.fluent_grammar.specs.Tree.{Elements}
 use Rattle.fluent_meaning.specs.Ids.{Ids}
 use Rattle.fluent_plurals.specs.declared.plurals.LanguagePlurals.{LanguagePlurals}
-use Rattle.lint_findings.specs.EntryFindings.{node_findings, nodes_findings, pattern_findings}
-use Rattle.lint_findings.specs.Finding.{Finding, error}
+use Rattle.fluent_errors.specs.Errors.{cyclic}
+use Rattle.lint_findings.specs.Flaws.{unresolved}
+use Rattle.lint_findings.specs.FlawWords.{flaw_words}
+use Rattle.lint_findings.specs.EntryFindings.{finding_in, node_findings, nodes_findings, pattern_findings}
+use Rattle.lint_findings.specs.Finding.{Finding}
 use Rattle.lint_findings.specs.FlawHints.{never_ends, endless_hint}
 use Rattle.lint_findings.specs.Nodes.{Node, elements_nodes}
 use Rattle.lint_findings.specs.Occurrences.{Occurrence, occurrences, pattern_read}
@@ -20,14 +23,7 @@ use Rattle.lint_entries.proofs.FirstIsHint.{goes, never_ends_by, hint_by}
 
 module _ (ids reference : Ids (Unit {0})) (plurals : Option LanguagePlurals) (source owner name : Text) where
   abbrev with_hint : Option Text → Finding
-  with_hint hint = record {
-    offset = length source - length name;
-    code = codes "cyclic-reference";
-    severity = error;
-    entry = Some owner;
-    text = codes "the references never end";
-    hint = hint;
-  }
+  with_hint hint = finding_in source owner name (record (flaw_words (unresolved cyclic)) { hint = hint })
 
   ends_part : (b : Bool) (hint first : Option Text) → b ≡ is_some first → hint ≡ option_map (goes ids) first → (if b then with_hint hint ∷ [] else []) ≡ endless_at source owner name first
   ends_part b hint None e h = ap (λ x. if x then with_hint hint ∷ [] else []) e

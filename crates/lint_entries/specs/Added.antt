@@ -6,6 +6,8 @@ use Rattle.fluent_ast.specs.Borrowed.{attributes_of, elements_of}
 use Rattle.fluent_ast.specs.declared.Attribute.{Attribute}
 use Rattle.fluent_ast.specs.declared.Pattern.{Pattern}
 use Rattle.lint_finding.specs.declared.records.Finding.{Finding}
+use Rattle.lint_finding.specs.View.{remark_view}
+use Rattle.lint_finding.specs.declared.remark.Remark.{Remark}
 use Rattle.lint_findings.specs.Finding as f
 use Rattle.lint_findings.specs.Occurrences.{pattern_read}
 use Rattle.fluent_grammar.specs.Refusal.{got}
@@ -18,8 +20,8 @@ use Rattle.lint_nodes.specs.OccurrenceView.{occurrence_view}
 use Rattle.lint_nodes.specs.declared.occurrence.Occurrence.{Occurrence}
 use Rattle.lint_entries.specs.AttributesFound.{attributes_found}
 use Rattle.lint_entries.specs.FirstEndless.{first_entered}
-use Rattle.lint_entries.specs.FoundAt.{endless_found, flaw_findings, node_found, nodes_of, occurrences_found, option_findings, pattern_found, value_found}
-use Rattle.lint_entries.specs.Made.{Adds}
+use Rattle.lint_entries.specs.FoundAt.{endless_found, node_found, nodes_of, occurrences_found, pattern_found, value_found}
+use Rattle.lint_entries.specs.Made.{Adds, made_of}
 use Rattle.lint_entries.specs.declared.catalog.Catalog.{Catalog}
 use Rattle.lint_entries.specs.declared.finding.EntryPoint.{EntryPoint}
 use Rattle.lint_entries.specs.declared.label.Label.{Label}
@@ -48,13 +50,9 @@ endless_among ids name occurrences = endless_found name (first_entered ids (node
 abbrev pub AddsNode : Catalog → EntryPoint → Node → Vec Finding Global → Vec Finding Global → Type 0
 AddsNode catalog place node old new = Adds old new (node_found catalog place (node_view node))
 
--- those of the flaws of a node at a place
-abbrev pub AddsFlaws : Catalog → EntryPoint → Node → Vec Finding Global → Vec Finding Global → Type 0
-AddsFlaws catalog place node old new = Adds old new (flaw_findings catalog place (node_view node))
-
--- those of the options of a node at a place
-abbrev pub AddsOptions : EntryPoint → Node → Vec Finding Global → Vec Finding Global → Type 0
-AddsOptions place node old new = Adds old new (option_findings place (node_view node))
+-- those of remarks at a place
+abbrev pub AddsRemarks : EntryPoint → List Remark → Vec Finding Global → Vec Finding Global → Type 0
+AddsRemarks place remarks old new = Adds old new (map (made_of place) (map remark_view remarks))
 
 -- those of occurrences in a source
 abbrev pub AddsOccurrences : Catalog → Text → Label → List Occurrence → Vec Finding Global → Vec Finding Global → Type 0

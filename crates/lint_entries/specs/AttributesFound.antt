@@ -4,6 +4,7 @@ use Rattle.std.specs.Global.{Global}
 use denote.Ref.{Bor}
 use Rattle.fluent_grammar.specs.Words.{Text, is_among}
 use Rattle.fluent_grammar.specs.Tree as t
+use Rattle.lint_findings.specs.EntryFindings.{taken_remark}
 use Rattle.lint_findings.specs.Finding.{Finding}
 use Rattle.lint_finding.specs.declared.records.Finding as code
 use Rattle.fluent_meaning.specs.Fallback.{with_attribute}
@@ -14,11 +15,10 @@ use Rattle.lint_entries.specs.Made.{Adds, made_of}
 use Rattle.lint_entries.specs.declared.catalog.Catalog.{Catalog}
 use Rattle.lint_entries.specs.declared.finding.EntryPoint.{EntryPoint}
 use Rattle.lint_entries.specs.declared.names.Names.{Names}
-use Rattle.lint_entries.specs.declared.problem.Problem.TheVariants as problem
 
 -- an attribute whose name is one of these
 abbrev pub taken_found : List Text → Text → EntryPoint → List Finding
-taken_found before name place = if is_among name before then made_of place problem.DuplicateAttribute ∷ [] else []
+taken_found before name place = if is_among name before then made_of place taken_remark ∷ [] else []
 
 -- the finding of an attribute is added, if its name is one of those of a set
 abbrev pub AddsIfTaken : Names → Text → EntryPoint → Vec code.Finding Global → Vec code.Finding Global → Type 0

@@ -1,5 +1,4 @@
 pub mod Labels
-pub mod Problems
 pub mod Made
 pub mod FirstEndless
 pub mod FoundAt

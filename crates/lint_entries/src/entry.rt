@@ -8,19 +8,21 @@ ghost use Rattle.lint_entries.specs.AttributePlaces.{AreAttributes, IsEntryAt, b
 ghost use Rattle.lint_entries.specs.AttributesFound.{AddsIfTaken, place_of_attribute};
 ghost use Rattle.lint_entries.specs.Found.{IsFoundIn};
 ghost use Rattle.lint_entries.specs.HasNames.{GetsName};
+ghost use Rattle.lint_entries.specs.Made.{made_of};
+ghost use Rattle.lint_finding.specs.View.{finding_view};
+ghost use Rattle.lint_findings.specs.EntryFindings.{taken_remark};
 ghost use Rattle.lint_entries.specs.PartsView.{AreFoundOf, AreReadAt, value_of};
 ghost use Rattle.lint_nodes.specs.OccurrenceView.{IsPatternAt};
 
 use crate::catalog::Catalog;
 use crate::entry_parts::EntryParts;
-use crate::finding::{EntryPoint, problem_finding};
+use crate::finding::EntryPoint;
 use crate::label::Label;
 use crate::names::Names;
 use crate::pattern::push_pattern;
-use crate::problem::Problem;
 use crate::text::{after_equals, skip_blank_block, skip_spaces};
 use fluent_ast::{Attribute, Entry, Pattern};
-use lint_finding::Finding;
+use lint_finding::{Finding, Remark};
 use lint_nodes::{empty_pattern_rest, skip};
 use std::alloc::{AllocError, Global};
 
@@ -157,7 +159,14 @@ fn push_if_taken<'s>(
     ensures added { OnOk result (AddsIfTaken names.old name.now place.now findings.old findings.new) }
 {
     if !names.insert(name)? {
-        findings.push(problem_finding(alloc, place, Problem::DuplicateAttribute)?)?;
+        findings.push(taken_finding(alloc, place)?)?;
     }
     Ok(())
+}
+
+fn taken_finding(alloc: Global, place: &EntryPoint<'_, '_, '_>) -> Result<Finding, AllocError>
+    ensures { IfOk result (λ made. finding_view made ≡ made_of place.now taken_remark) }
+{
+    let text = format!(in alloc; "an earlier attribute has this name, so this one is never shown")?;
+    place.finding(alloc, Remark::warning("duplicate-attribute", text))
 }

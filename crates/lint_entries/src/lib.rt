@@ -26,7 +26,6 @@ mod location;
 mod names;
 mod nodes;
 mod pattern;
-mod problem;
 mod rest;
 mod start;
 mod terms;

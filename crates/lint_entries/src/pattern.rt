@@ -1,20 +1,23 @@
 //! The findings of a pattern.
 #![tactic(auto)]
 
-ghost use Rattle.std.specs.Prelude.{IfOk, OnOk};
+ghost use Rattle.std.specs.Prelude.{◌≡◌, IfOk, OnOk};
 ghost use Rattle.fluent_ast.specs.Borrowed.{elements_of};
 ghost use Rattle.lint_entries.specs.Added.{AddsPattern, LeavesAfter, endless_among};
 ghost use Rattle.lint_entries.specs.CatalogView.{ids_in};
-ghost use Rattle.lint_entries.specs.Made.{Adds};
+ghost use Rattle.lint_entries.specs.FirstEndless.{goes_on_remark};
+ghost use Rattle.lint_entries.specs.Labels.{label_text};
+ghost use Rattle.lint_entries.specs.Made.{Adds, made_of};
+ghost use Rattle.lint_finding.specs.View.{finding_view};
 ghost use Rattle.lint_nodes.specs.OccurrenceView.{IsPatternAt};
 
 use crate::catalog::Catalog;
 use crate::endless::first_entered;
-use crate::finding::{EntryPoint, problem_finding};
+use crate::finding::EntryPoint;
+use crate::label::Label;
 use crate::nodes::push_occurrences;
-use crate::problem::Problem;
 use fluent_ast::Pattern;
-use lint_finding::Finding;
+use lint_finding::{Finding, Remark};
 use lint_nodes::{Occurrence, pattern_occurrences};
 use std::alloc::{AllocError, Global};
 
@@ -61,7 +64,22 @@ fn push_endless<'s>(
         (endless_among (ids_in catalog.now) name.now occurrences.now)) }
 {
     if let Some(reference) = first_entered(catalog.endless, occurrences) {
-        findings.push(problem_finding(alloc, name, Problem::Endless(reference))?)?;
+        findings.push(endless_finding(alloc, name, reference)?)?;
     }
     Ok(())
+}
+
+/// That references never end, and go on at this one.
+fn endless_finding(
+    alloc: Global,
+    name: &EntryPoint<'_, '_, '_>,
+    reference: Label<'_>,
+) -> Result<Finding, AllocError>
+    ensures { IfOk result (λ made. finding_view made
+        ≡ made_of name.now (goes_on_remark (label_text reference.entry))) }
+{
+    let text = format!(in alloc; "the references never end")?;
+    let hint = format!(in alloc; "they go on at `{reference}`")?;
+    let remark = Remark::error("cyclic-reference", text).with_hint(Some(hint));
+    name.finding(alloc, remark)
 }

@@ -8,7 +8,7 @@ ghost use Rattle.lint_entries.specs.Terms.{AreTermsOf, GetsTerm, IsUnusedFinding
 
 use crate::entries::label;
 use fluent_ast::Entry;
-use lint_finding::{Finding, Severity};
+use lint_finding::{Finding, Remark};
 use std::alloc::{AllocError, Global};
 use std::collections::HashSet;
 
@@ -62,15 +62,8 @@ impl<'s> ReferredTerms<'s> {
         match entry {
             Entry::Term(term) if !self.ids.contains(term.id.name) => {
                 let entry = label(self.alloc, entry)?;
-                let text = String::from_str(self.alloc, "no entry refers to this term")?;
-                Ok(Some(Finding {
-                    offset,
-                    code: "unused-term",
-                    severity: Severity::Note,
-                    entry: Some(entry),
-                    text,
-                    hint: None,
-                }))
+                let text = format!(in self.alloc; "no entry refers to this term")?;
+                Ok(Some(Remark::note("unused-term", text).at(offset, entry)))
             }
             _ => Ok(None),
         }

@@ -3,7 +3,7 @@ use Rattle.std.specs.Prelude.{◌≡◌, ℕ, Option, Some, option_map, String, 
 use Rattle.std.specs.Global.{Global}
 use Rattle.fluent_grammar.specs.Words.{Text}
 use Rattle.lint_findings.specs.Comparison as c
-use Rattle.lint_findings.specs.ComparisonFindings.{difference_code, difference_severity, difference_text}
+use Rattle.lint_findings.specs.ComparisonFindings.{difference_words}
 use Rattle.lint_findings.specs.Finding as f
 use Rattle.lint_finding.specs.declared.difference.Difference.{Difference}
 use Rattle.lint_finding.specs.declared.difference.Difference.TheVariants as of
@@ -24,14 +24,7 @@ difference_view of.Untranslated = c.untranslated
 -- The finding of a difference of the message with this id, at an offset, with a hint. At that of `difference_at`, and with
 -- that of `difference_hint`, it is `difference_finding`.
 abbrev pub finding_at : ℕ → Text → Option Text → c.Difference → f.Finding
-finding_at offset id hint d = record {
-  offset = offset;
-  code = difference_code d;
-  severity = difference_severity d;
-  entry = Some id;
-  text = difference_text d;
-  hint = hint;
-}
+finding_at offset id hint d = f.finding_at offset id (record (difference_words d) { hint = hint })
 
 -- a finding stands for that of a difference of the message with this id, at an offset, with a hint
 abbrev pub IsFindingAt : ℕ → Text → Option (String Global) → Difference → Finding → Type 0

@@ -7,6 +7,7 @@ use Rattle.lint_findings.specs.Findings.{FileFinding, findings_in}
 use Rattle.lint_finding.specs.declared.records.Severity.{Severity}
 use Rattle.lint_finding.specs.declared.records.Severity.TheVariants as severity
 use Rattle.lint_finding.specs.declared.records.Finding.{Finding}
+use Rattle.lint_finding.specs.declared.remark.Remark.{Remark}
 use Rattle.lint_finding.specs.declared.records.File.{File}
 use Rattle.lint_finding.specs.declared.records.FileFindings.{FileFindings}
 
@@ -23,6 +24,14 @@ finding_view f = record {
   entry = option_map string_bytes f.entry;
   text = string_bytes f.text;
   hint = option_map string_bytes f.hint;
+}
+
+abbrev pub remark_view : Remark → findings.Remark
+remark_view r = record {
+  code = r.code.now;
+  severity = severity_view r.severity;
+  text = string_bytes r.text;
+  hint = option_map string_bytes r.hint;
 }
 
 abbrev pub file_view : File → files.File

@@ -1,14 +1,14 @@
 //! Differences, in words.
 #![tactic(auto)]
 
-ghost use Rattle.std.specs.Prelude.{◌≡◌, IfOk, Some};
+ghost use Rattle.std.specs.Prelude.{◌≡◌, IfOk};
 ghost use Rattle.lint_finding.specs.DifferenceView.{IsFindingAt, difference_view};
-ghost use Rattle.lint_finding.specs.View.{severity_view};
-ghost use Rattle.lint_findings.specs.ComparisonFindings.{difference_code, difference_severity, difference_text};
+ghost use Rattle.lint_finding.specs.View.{remark_view};
+ghost use Rattle.lint_findings.specs.ComparisonFindings.{difference_words};
 
-use crate::{Finding, Severity};
+use crate::records::Finding;
+use crate::remark::Remark;
 use std::alloc::{AllocError, Global};
-use std::fmt;
 
 /// How a message of a catalog differs from the message of the reference with the same id. Its text is that of
 /// `docs/reference/lint.md`.
@@ -35,37 +35,51 @@ pub enum Difference<'s> {
 }
 
 impl Difference<'_> {
-    /// The name of the kind of difference, such as `missing-value`.
-    pub fn code(&self) -> &'static str
-        ensures { result.now ≡ difference_code (difference_view self.now) }
+    /// The remark on the difference, without a hint.
+    ///
+    /// # Errors
+    /// [`AllocError`] if memory runs out; nothing is kept.
+    pub fn remark(&self, alloc: Global) -> Result<Remark, AllocError>
+        ensures { IfOk result (λ remark. remark_view remark
+            ≡ difference_words (difference_view self.now)) }
     {
         match self {
-            Difference::MissingMessage => "missing-message",
-            Difference::ObsoleteMessage => "obsolete-message",
-            Difference::MissingValue => "missing-value",
-            Difference::ObsoleteValue => "obsolete-value",
-            Difference::MissingAttribute(_) => "missing-attribute",
-            Difference::ObsoleteAttribute(_) => "obsolete-attribute",
-            Difference::UnknownVariable(_) => "unknown-variable",
-            Difference::UnusedVariable(_) => "unused-variable",
-            Difference::Untranslated => "untranslated",
-        }
-    }
-
-    /// How bad the difference is.
-    pub fn severity(&self) -> Severity
-        ensures { severity_view result ≡ difference_severity (difference_view self.now) }
-    {
-        match self {
-            Difference::MissingValue
-            | Difference::MissingAttribute(_)
-            | Difference::UnknownVariable(_) => Severity::Error,
-            Difference::MissingMessage
-            | Difference::ObsoleteValue
-            | Difference::ObsoleteAttribute(_) => Severity::Warning,
-            Difference::ObsoleteMessage
-            | Difference::UnusedVariable(_)
-            | Difference::Untranslated => Severity::Note,
+            Difference::MissingMessage => Ok(Remark::warning(
+                "missing-message",
+                format!(in alloc; "the message has no translation")?,
+            )),
+            Difference::ObsoleteMessage => Ok(Remark::note(
+                "obsolete-message",
+                format!(in alloc; "the reference has no such message")?,
+            )),
+            Difference::MissingValue => Ok(Remark::error(
+                "missing-value",
+                format!(in alloc; "the value is missing, and the reference has one")?,
+            )),
+            Difference::ObsoleteValue => Ok(Remark::warning(
+                "obsolete-value",
+                format!(in alloc; "the reference has no value")?,
+            )),
+            Difference::MissingAttribute(name) => Ok(Remark::error(
+                "missing-attribute",
+                format!(in alloc; "the attribute `.{name}` of the reference is missing")?,
+            )),
+            Difference::ObsoleteAttribute(name) => Ok(Remark::warning(
+                "obsolete-attribute",
+                format!(in alloc; "the reference has no attribute `.{name}`")?,
+            )),
+            Difference::UnknownVariable(name) => Ok(Remark::error(
+                "unknown-variable",
+                format!(in alloc; "the reference has no variable `${name}`")?,
+            )),
+            Difference::UnusedVariable(name) => Ok(Remark::note(
+                "unused-variable",
+                format!(in alloc; "the variable `${name}` of the reference isn't used")?,
+            )),
+            Difference::Untranslated => Ok(Remark::note(
+                "untranslated",
+                format!(in alloc; "the text is the same as in the reference")?,
+            )),
         }
     }
 
@@ -83,46 +97,7 @@ impl Difference<'_> {
         ensures { IfOk result (IsFindingAt offset id.now hint self.now) }
     {
         let entry = String::from_str(alloc, id)?;
-        let text = self.to_string(alloc)?;
-        Ok(Finding {
-            offset,
-            code: self.code(),
-            severity: self.severity(),
-            entry: Some(entry),
-            text,
-            hint,
-        })
-    }
-}
-
-impl fmt::Display for Difference<'_> {
-    ghost output = { λ difference. Some (difference_text (difference_view difference)) };
-
-    fn fmt<W: fmt::Write>(&self, f: &mut fmt::Formatter<W>) -> fmt::Result {
-        match self {
-            Difference::MissingMessage => f.write_str("the message has no translation"),
-            Difference::ObsoleteMessage => f.write_str("the reference has no such message"),
-            Difference::MissingValue => f.write_str(
-                "the value is missing, and the reference has one",
-            ),
-            Difference::ObsoleteValue => f.write_str("the reference has no value"),
-            Difference::MissingAttribute(name) => write!(
-                f,
-                "the attribute `.{name}` of the reference is missing"
-            ),
-            Difference::ObsoleteAttribute(name) => write!(
-                f,
-                "the reference has no attribute `.{name}`"
-            ),
-            Difference::UnknownVariable(name) => write!(
-                f,
-                "the reference has no variable `${name}`"
-            ),
-            Difference::UnusedVariable(name) => write!(
-                f,
-                "the variable `${name}` of the reference isn't used"
-            ),
-            Difference::Untranslated => f.write_str("the text is the same as in the reference"),
-        }
+        let remark = self.remark(alloc)?;
+        Ok(remark.with_hint(hint).at(offset, entry))
     }
 }

@@ -23,8 +23,9 @@ use Rattle.lint_findings.specs.Nodes.{Node, expression, select, repeated_key, el
 use Rattle.lint_findings.specs.Occurrences.{Occurrence, occurrences, PatternPlace}
 use Rattle.lint_findings.specs.Finding.{Finding}
 use Rattle.lint_findings.specs.FlawHints.{never_ends}
-use Rattle.lint_findings.specs.FlawWords.{flaw_code}
-use Rattle.lint_findings.specs.EntryFindings.{flaw_finding, endless_finding, node_flaws, node_findings, nodes_findings, pattern_findings, attribute_findings, patterns_findings, first_place, pattern_places, entry_findings}
+use Rattle.lint_findings.specs.FlawWords.{flaw_words}
+use Rattle.lint_findings.proofs.NodeRemarks.{flaw_finding, node_findings_are}
+use Rattle.lint_findings.specs.EntryFindings.{endless_remark, finding_in, node_flaws, node_findings, nodes_findings, pattern_findings, attribute_findings, patterns_findings, first_place, pattern_places, entry_findings}
 use Rattle.lint_findings.specs.Files.{File}
 use Rattle.lint_findings.specs.DuplicateIds.{Declaration, duplicate_findings}
 use Rattle.lint_findings.specs.Findings.{Rules, FileFinding, FileTile, findings_in, tiles_in, sources, findings_of_tile, findings_of_tiles, declarations_of_tile, catalog_rules, translation_rules, known_functions, missing_messages}
@@ -43,7 +44,7 @@ use Rattle.lint_findings.proofs.ProgramIds.{ids_same, flawless_with_functions}
 -- the finding of a resolver error has a harmful code
 abbrev HasHarmfulCode : Option Unresolved → Type 0
 HasHarmfulCode None = Unit {0}
-HasHarmfulCode (Some e) = is_among (flaw_code (unresolved e)) harmful_codes ≡ true
+HasHarmfulCode (Some e) = is_among ((flaw_words (unresolved e)).code) harmful_codes ≡ true
 
 there_code : (e : Unresolved) (o : Option Elements) → HasHarmfulCode (Some e) → HasHarmfulCode (target_error (there_or e o))
 there_code e None h = h
@@ -139,7 +140,7 @@ module _ (rules : Rules) where
         Clean (map (flaw_finding rules.ids rules.reference source owner at) (map unresolved (option_to_list o))) → o ≡ None
     reference_resolved owner at None code h = refl
     reference_resolved owner at (Some e) code h =
-        let clean : is_among (flaw_code (unresolved e)) harmful_codes ≡ false = All-head HasHarmlessCode (flaw_finding rules.ids rules.reference source owner at (unresolved e)) [] h in absurd cc
+        let clean : is_among ((flaw_words (unresolved e)).code) harmful_codes ≡ false = All-head HasHarmlessCode (flaw_finding rules.ids rules.reference source owner at (unresolved e)) [] h in absurd cc
 
     default_is_there : (owner at : Text) (o : Option Elements) → Clean (map (flaw_finding rules.ids rules.reference source owner at) (default_flaws o)) → is_some o ≡ true
     default_is_there owner at None h =
@@ -153,7 +154,8 @@ module _ (rules : Rules) where
 
     node_by_findings : (owner at : Text) (node : Node) → Clean (node_findings rules.ids rules.reference rules.plurals source owner at node) → IsResolved (find rules.ids) node
     node_by_findings owner at node h =
-        node_is_resolved owner at node (all_left HasHarmlessCode (map (flaw_finding rules.ids rules.reference source owner at) (node_flaws rules.ids node)) _ h)
+        node_is_resolved owner at node (all_left HasHarmlessCode (map (flaw_finding rules.ids rules.reference source owner at) (node_flaws rules.ids node)) _
+        (subst Clean (node_findings_are rules.ids rules.reference rules.plurals source owner at node) h))
 
     nodes_are_resolved : (owner at : Text) (nodes : List Node) (os : List Occurrence) → Clean (nodes_findings rules.ids rules.reference rules.plurals source owner at nodes os) →
         All (IsResolved (find rules.ids)) nodes
@@ -166,9 +168,9 @@ module _ (rules : Rules) where
         (nodes_are_resolved owner at nodes os (all_right HasHarmlessCode (node_findings rules.ids rules.reference rules.plurals source owner o.at node) _ h))
 
     ends : (es : Elements) (owner at : Text) (goes_on is_endless : Bool) → (is_endless ≡ true → goes_on ≡ true) →
-        Clean (if goes_on then endless_finding rules.ids rules.reference source es owner at ∷ [] else []) → All IsHarmless (if is_endless then unresolved cyclic ∷ [] else [])
+        Clean (if goes_on then finding_in source owner at (endless_remark rules.ids rules.reference es) ∷ [] else []) → All IsHarmless (if is_endless then unresolved cyclic ∷ [] else [])
     ends es owner at true is_endless goes h =
-        let clean : is_among (codes "cyclic-reference") harmful_codes ≡ false = All-head HasHarmlessCode (endless_finding rules.ids rules.reference source es owner at) [] h in absurd cc
+        let clean : is_among (codes "cyclic-reference") harmful_codes ≡ false = All-head HasHarmlessCode (finding_in source owner at (endless_remark rules.ids rules.reference es)) [] h in absurd cc
     ends es owner at false true goes h = let bad : false ≡ true = goes refl in absurd cc
     ends es owner at false false goes h = All-nil IsHarmless
 
@@ -176,8 +178,8 @@ module _ (rules : Rules) where
     pattern_is_harmless owner place es h =
         let b = never_ends rules.ids es in
         let endless = is_pattern_among es (endless_patterns rules.ids) in
-        let first = all_left HasHarmlessCode (if b then endless_finding rules.ids rules.reference source es owner place.name_at ∷ [] else []) _ h in
-        let others = all_right HasHarmlessCode (if b then endless_finding rules.ids rules.reference source es owner place.name_at ∷ [] else []) _ h in
+        let first = all_left HasHarmlessCode (if b then finding_in source owner place.name_at (endless_remark rules.ids rules.reference es) ∷ [] else []) _ h in
+        let others = all_right HasHarmlessCode (if b then finding_in source owner place.name_at (endless_remark rules.ids rules.reference es) ∷ [] else []) _ h in
         let resolved = elements_resolved (find rules.ids) es (nodes_are_resolved owner place.pattern_at (elements_nodes es) (occurrences place.pattern_at) others) in
         All-append IsHarmless (map unresolved (pattern_errors (find rules.ids) es)) _ (errors_are_harmless (find rules.ids) (elements_references es) resolved.0)
         (All-append IsHarmless (flat_map select_flaws (elements_selects es)) _ (selects_are_harmless (elements_selects es) resolved.1) (ends es owner place.name_at b endless (endless_goes_on rules.ids es) first))

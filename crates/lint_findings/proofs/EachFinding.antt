@@ -21,11 +21,12 @@ use Rattle.lint_findings.specs.Tiles.{entry_tile}
 use Rattle.lint_findings.specs.References.{reference_error}
 use Rattle.lint_findings.specs.Flaws.{unresolved, duplicate_key, default_flaws, elements_selects, entry_patterns, Owner}
 use Rattle.lint_findings.specs.FlawHints.{never_ends}
-use Rattle.lint_findings.specs.FlawWords.{flaw_code}
+use Rattle.lint_findings.specs.FlawWords.{flaw_words}
 use Rattle.lint_findings.specs.Nodes.{Node, expression, select, repeated_key, elements_nodes}
 use Rattle.lint_findings.specs.Occurrences.{Occurrence, occurrences, inline_read, pattern_read, PatternPlace}
-use Rattle.lint_findings.specs.Finding.{Finding}
-use Rattle.lint_findings.specs.EntryFindings.{flaw_finding, endless_finding, category_finding, escape_finding, option_finding, node_flaws, node_categories, node_escapes, node_misuses, node_findings, nodes_findings, pattern_findings, attribute_findings, patterns_findings, pattern_places, entry_findings}
+use Rattle.lint_findings.specs.Finding.{Finding, Remark}
+use Rattle.lint_findings.proofs.NodeRemarks.{flaw_finding, node_findings_are, IsPlain, doubts_are_plain}
+use Rattle.lint_findings.specs.EntryFindings.{endless_remark, finding_in, node_flaws, node_doubts, node_findings, nodes_findings, pattern_findings, attribute_findings, patterns_findings, pattern_places, entry_findings}
 use Rattle.lint_findings.specs.Files.{File}
 use Rattle.lint_findings.specs.DuplicateIds.{Declaration, id_of, duplicate_findings}
 use Rattle.lint_findings.specs.UnusedTerms.{unused_findings}
@@ -43,7 +44,7 @@ clash b p q = false≢true (sym p ∙ q)
 
 -- ---- codes
 
-not_syntax : (e : Unresolved) → is_among (flaw_code (unresolved e)) syntax_codes ≡ false
+not_syntax : (e : Unresolved) → is_among ((flaw_words (unresolved e)).code) syntax_codes ≡ false
 not_syntax (unknown (to_function id)) = refl
 not_syntax (unknown (to_message id None)) = refl
 not_syntax (unknown (to_message id (Some a))) = refl
@@ -55,7 +56,7 @@ not_syntax missing_default = refl
 not_syntax cyclic = refl
 not_syntax too_many_placeables = refl
 
-not_repeated : (e : Unresolved) → bytes_eq (flaw_code (unresolved e)) (codes "duplicate-variant") ≡ false
+not_repeated : (e : Unresolved) → bytes_eq ((flaw_words (unresolved e)).code) (codes "duplicate-variant") ≡ false
 not_repeated (unknown (to_function id)) = refl
 not_repeated (unknown (to_message id None)) = refl
 not_repeated (unknown (to_message id (Some a))) = refl
@@ -125,7 +126,7 @@ module _ (S : Type 0) (rules : Rules) (file : File) where
             unlike_syntax = not_syntax e;
             keeps = record {
               reference = λ c. record { reference = i; rest = rest; error = e; read = ap inline_read (at_offset source at h) ∙ read; missing = is; code = refl; text = refl };
-              repeated = λ c. absurd (clash (bytes_eq (flaw_code (unresolved e)) (codes "duplicate-variant")) (not_repeated e) c);
+              repeated = λ c. absurd (clash (bytes_eq ((flaw_words (unresolved e)).code) (codes "duplicate-variant")) (not_repeated e) c);
             };
           })
 
@@ -158,14 +159,18 @@ module _ (S : Type 0) (rules : Rules) (file : File) where
       of_flaws (select i vs) read known = of_default (first_default vs)
       of_flaws (repeated_key key) read known = one (flaw_finding rules.ids rules.reference source owner at (duplicate_key key)) (of_key key read known)
 
+      of_doubts : (rs : List Remark) → All IsPlain rs → AreSound (map (finding_in source owner at) rs)
+      of_doubts [] h = none
+      of_doubts (r ∷ rs) h =
+          let here = All-head IsPlain r rs h in
+          All-cons IsSound (finding_in source owner at r) (map (finding_in source owner at) rs)
+          (plain (finding_in source owner at r) here.no_syntax here.no_reference here.no_variant) (of_doubts rs (All-tail IsPlain r rs h))
+
       of_node : (node : Node) → IsReadAt at node → IsOfSelects (source_selects source) node → AreSound (node_findings rules.ids rules.reference rules.plurals source owner at node)
       of_node node read known =
-          both (map (flaw_finding rules.ids rules.reference source owner at) (node_flaws rules.ids node)) _ (of_flaws node read known)
-          (both (map (category_finding rules.ids rules.reference rules.plurals source owner at) (node_categories rules.plurals node)) _
-          (mapped (category_finding rules.ids rules.reference rules.plurals source owner at) (λ c. plain _ refl refl refl) (node_categories rules.plurals node))
-          (both (map (escape_finding rules.ids rules.reference rules.plurals source owner at) (node_escapes node)) _
-          (mapped (escape_finding rules.ids rules.reference rules.plurals source owner at) (λ x. plain _ refl refl refl) (node_escapes node))
-          (mapped (option_finding rules.ids rules.reference rules.plurals source owner at) (λ m. plain _ refl refl refl) (node_misuses node))))
+          subst AreSound (sym (node_findings_are rules.ids rules.reference rules.plurals source owner at node))
+          (both (map (flaw_finding rules.ids rules.reference source owner at) (node_flaws rules.ids node)) _ (of_flaws node read known)
+          (of_doubts (node_doubts rules.plurals node) (doubts_are_plain rules.plurals node)))
 
     of_nodes : (s : Text) → EndsIn s source → (at : Text) (os : List Occurrence) → All (IsReadIn s) os → All (IsOfSelects (source_selects source)) (nodes os) →
         AreSound (nodes_findings rules.ids rules.reference rules.plurals source owner at (nodes os) os)
@@ -182,8 +187,8 @@ module _ (S : Type 0) (rules : Rules) (file : File) where
       let os = occurrences place.pattern_at in
       let same : nodes os ≡ elements_nodes es = occurrences_are_the_nodes place.pattern_at es rest read in
       let known = more (elements_selects es) (source_selects source) (elements_nodes es) among (elements_known es) in
-      both (if never_ends rules.ids es then endless_finding rules.ids rules.reference source es owner place.name_at ∷ [] else []) _
-      (if_one (never_ends rules.ids es) (endless_finding rules.ids rules.reference source es owner place.name_at) (plain _ refl refl refl))
+      both (if never_ends rules.ids es then finding_in source owner place.name_at (endless_remark rules.ids rules.reference es) ∷ [] else []) _
+      (if_one (never_ends rules.ids es) (finding_in source owner place.name_at (endless_remark rules.ids rules.reference es)) (plain _ refl refl refl))
       (subst (λ ns. AreSound (nodes_findings rules.ids rules.reference rules.plurals source owner place.pattern_at ns os)) same
       (of_nodes owner place.pattern_at h place.pattern_at os (occurrences_are_read place.pattern_at) (subst (All (IsOfSelects (source_selects source))) (sym same) known)))
 

@@ -17,6 +17,7 @@ pub mod EndlessPatterns
 pub mod FlawlessCatalogs
 pub mod NodesHold
 pub mod ProgramIds
+pub mod NodeRemarks
 pub mod CleanReports
 pub mod Positions
 pub mod OccurrencesAreRead

@@ -22,7 +22,7 @@ use Rattle.lint_findings.specs.Comparison.{Difference, missing_message, obsolete
 use Rattle.lint_findings.specs.Finding.{Finding}
 use Rattle.lint_findings.specs.Files.{File}
 use Rattle.lint_findings.specs.DuplicateIds.{Declaration, first_declaration, duplicate_findings}
-use Rattle.lint_findings.specs.ComparisonFindings.{difference_code, difference_finding, missing_findings}
+use Rattle.lint_findings.specs.ComparisonFindings.{difference_words, difference_finding, missing_findings}
 use Rattle.lint_findings.specs.EntryFindings.{entry_findings}
 use Rattle.lint_findings.specs.Findings.{Options, Rules, FileFinding, FileTile, findings_in, tiles_in, sources, findings_of_tile, findings_of_tiles, declarations_of_tile, known_functions, known_ids, translation_rules, missing_messages, findings_with_reference}
 use Rattle.lint_findings.specs.PlaceLaws.{tile_entries}
@@ -46,7 +46,7 @@ without_file file (f ∷ fs) h =
     All-cons Present f fs (All-head PresentIn (record { file = file; finding = f }) (findings_in file fs) h)
     (without_file file fs (All-tail PresentIn (record { file = file; finding = f }) (findings_in file fs) h))
 
-not_missing : (id : Text) (d : Difference) → is_among (difference_code d) missing_codes ≡ false → NotMissing (id, d)
+not_missing : (id : Text) (d : Difference) → is_among ((difference_words d).code) missing_codes ≡ false → NotMissing (id, d)
 not_missing id missing_message h = absurd cc
 not_missing id missing_value h = absurd cc
 not_missing id (missing_attribute a) h = absurd cc

@@ -12,40 +12,24 @@ use Rattle.lint_findings.specs.Comparison.{Difference, missing_message, obsolete
 use Rattle.lint_findings.specs.NearNames.{nearest_hint}
 use Rattle.lint_findings.specs.Nodes.{Node, expression}
 use Rattle.lint_findings.specs.Occurrences.{Occurrence, occurrences, PatternPlace, entry_places}
-use Rattle.lint_findings.specs.Finding.{Severity, error, warning, note, Finding}
+use Rattle.lint_findings.specs.Finding.{error, warning, note, Finding, Remark, remark, finding_at}
 
-abbrev pub difference_code : Difference → Text
-difference_code missing_message = codes "missing-message"
-difference_code obsolete_message = codes "obsolete-message"
-difference_code missing_value = codes "missing-value"
-difference_code obsolete_value = codes "obsolete-value"
-difference_code (missing_attribute a) = codes "missing-attribute"
-difference_code (obsolete_attribute a) = codes "obsolete-attribute"
-difference_code (unknown_variable x) = codes "unknown-variable"
-difference_code (unused_variable x) = codes "unused-variable"
-difference_code untranslated = codes "untranslated"
-
-abbrev pub difference_severity : Difference → Severity
-difference_severity missing_message = warning
-difference_severity obsolete_message = note
-difference_severity missing_value = error
-difference_severity obsolete_value = warning
-difference_severity (missing_attribute a) = error
-difference_severity (obsolete_attribute a) = warning
-difference_severity (unknown_variable x) = error
-difference_severity (unused_variable x) = note
-difference_severity untranslated = note
-
-abbrev pub difference_text : Difference → Text
-difference_text missing_message = codes "the message has no translation"
-difference_text obsolete_message = codes "the reference has no such message"
-difference_text missing_value = codes "the value is missing, and the reference has one"
-difference_text obsolete_value = codes "the reference has no value"
-difference_text (missing_attribute a) = codes "the attribute " ++ (in_backticks (dot ∷ a) ++ codes " of the reference is missing")
-difference_text (obsolete_attribute a) = codes "the reference has no attribute " ++ in_backticks (dot ∷ a)
-difference_text (unknown_variable x) = codes "the reference has no variable " ++ in_backticks (dollar ∷ x)
-difference_text (unused_variable x) = codes "the variable " ++ (in_backticks (dollar ∷ x) ++ codes " of the reference isn't used")
-difference_text untranslated = codes "the text is the same as in the reference"
+-- a difference, without its hint
+abbrev pub difference_words : Difference → Remark
+difference_words missing_message = remark warning (codes "missing-message") (codes "the message has no translation")
+difference_words obsolete_message = remark note (codes "obsolete-message") (codes "the reference has no such message")
+difference_words missing_value =
+    remark error (codes "missing-value") (codes "the value is missing, and the reference has one")
+difference_words obsolete_value = remark warning (codes "obsolete-value") (codes "the reference has no value")
+difference_words (missing_attribute a) =
+    remark error (codes "missing-attribute") (codes "the attribute `." ++ (a ++ codes "` of the reference is missing"))
+difference_words (obsolete_attribute a) =
+    remark warning (codes "obsolete-attribute") (codes "the reference has no attribute " ++ in_backticks (dot ∷ a))
+difference_words (unknown_variable x) =
+    remark error (codes "unknown-variable") (codes "the reference has no variable " ++ in_backticks (dollar ∷ x))
+difference_words (unused_variable x) =
+    remark note (codes "unused-variable") (codes "the variable `$" ++ (x ++ codes "` of the reference isn't used"))
+difference_words untranslated = remark note (codes "untranslated") (codes "the text is the same as in the reference")
 
 -- ---- where a difference is
 
@@ -78,14 +62,8 @@ difference_hint known _ = None
 -- The finding of a difference, of the message of this id at the front of an end of the source. That of the reference is
 -- shown with these variables.
 abbrev pub difference_finding : Text → Text → Text → List Text → Difference → Finding
-difference_finding source id s known d = record {
-  offset = length source - length (difference_at s d);
-  code = difference_code d;
-  severity = difference_severity d;
-  entry = Some id;
-  text = difference_text d;
-  hint = difference_hint known d;
-}
+difference_finding source id s known d =
+    finding_at (length source - length (difference_at s d)) id (record (difference_words d) { hint = difference_hint known d })
 
 -- ---- of an entry
 

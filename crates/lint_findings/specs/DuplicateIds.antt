@@ -5,8 +5,7 @@ use Rattle.fluent_grammar.specs.Words.{Text, hyphen}
 use Rattle.fluent_grammar.specs.Tree as t
 use Rattle.fluent_meaning.specs.Ids.{Ids, find}
 use Rattle.lint_findings.specs.Files.{File, location}
-use Rattle.lint_findings.specs.SyntaxErrors.{in_backticks}
-use Rattle.lint_findings.specs.Finding.{error, Finding}
+use Rattle.lint_findings.specs.Finding.{error, Finding, Remark, remark, finding_at}
 
 -- an id, with the file and the offset of its entry
 pub record Declaration : Type 0 where
@@ -39,20 +38,16 @@ first_declaration id (d ∷ ds) = if bytes_eq d.id id then Some d else first_dec
 
 -- by the first declaration of the id; without one it is that of a function
 abbrev pub duplicate_text : Text → Option Declaration → Text
-duplicate_text id None = in_backticks id ++ codes " is a function, so this entry is never shown"
+duplicate_text id None = codes "`" ++ (id ++ codes "` is a function, so this entry is never shown")
 duplicate_text id (Some d) =
     codes "the entry at " ++ (location d.file d.offset ++ codes " has the same id, so this one is never shown")
+
+abbrev pub duplicate_remark : Text → Option Declaration → Remark
+duplicate_remark id first = remark error (codes "duplicate-id") (duplicate_text id first)
 
 -- The finding of an entry whose id an earlier one has, or one of these functions.
 abbrev pub duplicate_findings : {F : Type 0} → Ids F → List Declaration → t.Entry → ℕ → Text → List Finding
 duplicate_findings functions before e at id =
     if is_some (first_declaration id before) || is_some (find functions id)
-    then record {
-      offset = at;
-      code = codes "duplicate-id";
-      severity = error;
-      entry = Some (label_of e);
-      text = duplicate_text id (first_declaration id before);
-      hint = None;
-    } ∷ []
+    then finding_at at (label_of e) (duplicate_remark id (first_declaration id before)) ∷ []
     else []

@@ -19,10 +19,10 @@ use Rattle.lint_findings.specs.Nodes.{Node, expression, select, repeated_key, el
 use Rattle.lint_findings.specs.Occurrences.{Occurrence, occurrences, PatternPlace, entry_places}
 use Rattle.lint_findings.specs.MissingCategories.{missing_categories}
 use Rattle.lint_findings.specs.Escapes.{invalid_escapes, named_escapes}
-use Rattle.lint_findings.specs.NumberOptions.{Misuse, call_misuses, misuse_text}
-use Rattle.lint_findings.specs.Finding.{warning, Finding}
+use Rattle.lint_findings.specs.NumberOptions.{Misuse, call_misuses, misuse_remark}
+use Rattle.lint_findings.specs.Finding.{warning, Finding, Remark, remark, finding_at}
 use Rattle.lint_findings.specs.FlawHints.{never_ends, endless_hint, flaw_hint}
-use Rattle.lint_findings.specs.FlawWords.{flaw_code, flaw_severity, flaw_text}
+use Rattle.lint_findings.specs.FlawWords.{flaw_words}
 
 -- ---- places
 
@@ -63,53 +63,56 @@ abbrev pub node_misuses : Node → List Misuse
 node_misuses (expression (t.function_reference id (t.arguments ps ns))) = call_misuses id ns
 node_misuses _ = []
 
+-- ---- what is said of a node, a pattern and an attribute
+
+-- of a select without a variant for a category
+abbrev pub category_remark : PluralCategory → Remark
+category_remark category =
+    remark warning (codes "missing-category") (codes "there is no variant for the plural category " ++ in_backticks (category_text category))
+
+-- of an escape that stands for no character
+abbrev pub escape_remark : Text → Remark
+escape_remark escape =
+    remark warning (codes "invalid-escape") (codes "`" ++ (escape ++ codes "` isn't a character, and is shown as U+FFFD"))
+
+-- of an attribute whose name is that of an earlier one
+abbrev pub taken_remark : Remark
+taken_remark =
+    remark warning (codes "duplicate-attribute") (codes "an earlier attribute has this name, so this one is never shown")
+
+-- what is said of a node beside its flaws
+abbrev pub node_doubts : Option LanguagePlurals → Node → List Remark
+node_doubts plurals node =
+    map category_remark (node_categories plurals node)
+    ++ (map escape_remark (node_escapes node) ++ map misuse_remark (node_misuses node))
+
+module _ {F : Type 0} (ids reference : Ids F) where
+  -- of a flaw
+  abbrev pub flaw_remark : Flaw → Remark
+  flaw_remark flaw = record (flaw_words flaw) { hint = flaw_hint ids reference flaw }
+
+  -- of a pattern whose references never end
+  abbrev pub endless_remark : Elements → Remark
+  endless_remark es = record (flaw_words (unresolved cyclic)) { hint = endless_hint ids (elements_references es) }
+
+  -- all that is said of a node
+  abbrev pub node_remarks : Option LanguagePlurals → Node → List Remark
+  node_remarks plurals node = map flaw_remark (node_flaws ids node) ++ node_doubts plurals node
+
 -- ---- findings of an entry of this source
 
 -- the offset at which an end of the source begins
 abbrev pub offset_of : Text → Text → ℕ
 offset_of source s = length source - length s
 
-module _ {F : Type 0} (ids reference : Ids F) (source : Text) where
-  -- of a flaw of a node
-  abbrev pub flaw_finding : Text → Text → Flaw → Finding
-  flaw_finding owner at flaw = record {
-    offset = offset_of source at;
-    code = flaw_code flaw;
-    severity = flaw_severity flaw;
-    entry = Some owner;
-    text = flaw_text flaw;
-    hint = flaw_hint ids reference flaw;
-  }
-
-  -- that the references of a pattern never end
-  abbrev pub endless_finding : Elements → Text → Text → Finding
-  endless_finding es owner at =
-      record (flaw_finding owner at (unresolved cyclic)) { hint = endless_hint ids (elements_references es) }
+-- the finding of a remark on the owner of a pattern, at an end of the source
+abbrev pub finding_in : Text → Text → Text → Remark → Finding
+finding_in source owner at r = finding_at (offset_of source at) owner r
 
 module _ {F : Type 0} (ids reference : Ids F) (plurals : Option LanguagePlurals) (source : Text) where
-  -- a warning without a hint
-  abbrev pub plain_warning : Text → Text → Text → Text → Finding
-  plain_warning owner at code text =
-      record { offset = offset_of source at; code = code; severity = warning; entry = Some owner; text = text; hint = None }
-
-  abbrev pub category_finding : Text → Text → PluralCategory → Finding
-  category_finding owner at category =
-      plain_warning owner at (codes "missing-category")
-      (codes "there is no variant for the plural category " ++ in_backticks (category_text category))
-
-  abbrev pub escape_finding : Text → Text → Text → Finding
-  escape_finding owner at escape =
-      plain_warning owner at (codes "invalid-escape") (in_backticks escape ++ codes " isn't a character, and is shown as U+FFFD")
-
-  abbrev pub option_finding : Text → Text → Misuse → Finding
-  option_finding owner at misuse = plain_warning owner at (codes "unknown-option") (misuse_text misuse)
-
   -- of a node of a pattern, at its place
   abbrev pub node_findings : Text → Text → Node → List Finding
-  node_findings owner at node =
-      map (flaw_finding ids reference source owner at) (node_flaws ids node)
-      ++ (map (category_finding owner at) (node_categories plurals node)
-      ++ (map (escape_finding owner at) (node_escapes node) ++ map (option_finding owner at) (node_misuses node)))
+  node_findings owner at node = map (finding_in source owner at) (node_remarks ids reference plurals node)
 
   -- Of nodes in their order, each at the place of the occurrence with the same index. If there were none, it would be
   -- at the pattern; `OccurrencesAreTheNodes` says that there always is one.
@@ -122,15 +125,14 @@ module _ {F : Type 0} (ids reference : Ids F) (plurals : Option LanguagePlurals)
   -- of a pattern at its place: whether its references end, and then its nodes
   abbrev pub pattern_findings : Text → PatternPlace → Elements → List Finding
   pattern_findings owner place es =
-      (if never_ends ids es then endless_finding ids reference source es owner place.name_at ∷ [] else [])
+      (if never_ends ids es then finding_in source owner place.name_at (endless_remark ids reference es) ∷ [] else [])
       ++ nodes_findings owner place.pattern_at (elements_nodes es) (occurrences place.pattern_at)
 
   -- whether the name of an attribute, if it is one, is that of an earlier one
   abbrev pub attribute_findings : Text → List Text → PatternPlace → Option Text → List Finding
   attribute_findings owner before place attribute =
       if list_any (λ name. is_among name before) (option_to_list attribute)
-      then plain_warning owner place.name_at (codes "duplicate-attribute")
-      (codes "an earlier attribute has this name, so this one is never shown") ∷ []
+      then finding_in source owner place.name_at taken_remark ∷ []
       else []
 
   -- Of the patterns of an entry at their places, after attributes of these names. If there were no place, it would be

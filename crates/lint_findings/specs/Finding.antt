@@ -1,5 +1,5 @@
--- A finding.
-use Rattle.std.specs.Prelude.{ℕ, Option}
+-- A finding, and what it says.
+use Rattle.std.specs.Prelude.{ℕ, Option, Some, None}
 use Rattle.fluent_grammar.specs.Words.{Text}
 
 -- An error: something is missing, or shown as its fallback. A warning: most likely not what was meant. A note: worth
@@ -18,3 +18,25 @@ pub record Finding : Type 0 where
   pub entry : Option Text
   pub text : Text
   pub hint : Option Text
+
+-- What a finding says, without its place: the name of its kind, how bad it is, what is wrong, and what may be the cause.
+pub record Remark : Type 0 where
+  pub code : Text
+  pub severity : Severity
+  pub text : Text
+  pub hint : Option Text
+
+-- a remark without a hint
+abbrev pub remark : Severity → Text → Text → Remark
+remark severity code text = record { code = code; severity = severity; text = text; hint = None }
+
+-- the finding of a remark on this entry or attribute, at this offset
+abbrev pub finding_at : ℕ → Text → Remark → Finding
+finding_at offset entry r = record {
+  offset = offset;
+  code = r.code;
+  severity = r.severity;
+  entry = Some entry;
+  text = r.text;
+  hint = r.hint;
+}

@@ -15,7 +15,7 @@ use Rattle.fluent_meaning.specs.Choice.{first_match}
 use Rattle.fluent_meaning.specs.Ids.{Ids, find}
 use Rattle.lint_findings.specs.References.{reference_error}
 use Rattle.lint_findings.specs.Flaws.{Owner, catalog_ids, duplicate_key, elements_selects, entry_patterns, unresolved}
-use Rattle.lint_findings.specs.FlawWords.{flaw_code, flaw_text}
+use Rattle.lint_findings.specs.FlawWords.{flaw_words}
 use Rattle.lint_findings.specs.Occurrences.{inline_read}
 use Rattle.lint_findings.specs.Files.{File}
 use Rattle.lint_findings.specs.Findings.{Options, FileFinding, sources, findings, findings_with_reference, known_ids}
@@ -66,8 +66,8 @@ pub record IsOfReference {F : Type 0} (ids : Ids F) (f : FileFinding) : Type 0 w
   pub error : Unresolved
   pub read : inline_read (drop f.finding.offset f.file.source) ≡ got reference rest
   pub missing : reference_error (find ids) reference ≡ Some error
-  pub code : f.finding.code ≡ flaw_code (unresolved error)
-  pub text : f.finding.text ≡ flaw_text (unresolved error)
+  pub code : f.finding.code ≡ (flaw_words (unresolved error)).code
+  pub text : f.finding.text ≡ (flaw_words (unresolved error)).text
 
 -- Each finding with such a code is of a reference.
 abbrev pub HasReferences : Ids (Unit {0}) → List File → List FileFinding → Type 0
@@ -106,7 +106,7 @@ pub record IsOfLostVariant (S : Type 0) (f : FileFinding) : Type 0 where
   pub there : Contains (source_selects f.file.source) variants
   pub keyed : variant_key index variants ≡ Some key
   pub lost : NeverMatches S index variants
-  pub text : f.finding.text ≡ flaw_text (duplicate_key key)
+  pub text : f.finding.text ≡ (flaw_words (duplicate_key key)).text
 
 abbrev pub is_repeated : FileFinding → Bool
 is_repeated f = bytes_eq f.finding.code (codes "duplicate-variant")

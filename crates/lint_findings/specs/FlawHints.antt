@@ -32,7 +32,7 @@ is_term ids id = means_term (find ids id)
 
 -- the reference has a message, and the catalog hasn't
 abbrev pub untranslated_text : Text → Text
-untranslated_text id = codes "the reference has the message " ++ (in_backticks id ++ codes "; it isn't translated yet")
+untranslated_text id = codes "the reference has the message `" ++ (id ++ codes "`; it isn't translated yet")
 
 -- If an id stands for nothing, and a message is meant: that of the reference, or the nearest message, or else a variable.
 abbrev pub no_message_hint : {F : Type 0} → Ids F → Ids F → Text → Option Text
@@ -46,7 +46,7 @@ message_hint ids reference id None = no_message_hint ids reference id
 message_hint ids reference id (Some number_function) = None
 message_hint ids reference id (Some (function f)) = None
 message_hint ids reference id (Some (message m)) = None
-message_hint ids reference id (Some (term m)) = Some (in_backticks (hyphen ∷ id) ++ codes " is a term")
+message_hint ids reference id (Some (term m)) = Some (codes "`-" ++ (id ++ codes "` is a term"))
 
 -- if a term of this id is missing
 abbrev pub term_hint : {F : Type 0} → Ids F → Text → Option (Meaning F) → Option Text
@@ -54,7 +54,7 @@ term_hint ids id None = nearest_hint (hyphen ∷ []) (is_term ids) id
 term_hint ids id (Some number_function) = None
 term_hint ids id (Some (function f)) = None
 term_hint ids id (Some (term m)) = None
-term_hint ids id (Some (message m)) = Some (in_backticks id ++ codes " is a message")
+term_hint ids id (Some (message m)) = Some (codes "`" ++ (id ++ codes "` is a message"))
 
 abbrev pub first_attribute_hint : List t.Attribute → Option Text
 first_attribute_hint [] = None
@@ -64,6 +64,10 @@ first_attribute_hint (a ∷ as') = Some (codes "it has the attribute " ++ in_bac
 abbrev pub value_hint : Option t.Message → Option Text
 value_hint None = None
 value_hint (Some m) = first_attribute_hint m.attributes
+
+-- where references that never end go on: at one that is written so
+abbrev pub goes_on_text : Text → Text
+goes_on_text reference = codes "they go on at " ++ in_backticks reference
 
 module _ {F : Type 0} (ids : Ids F) where
   abbrev pub is_endless : Elements → Bool
@@ -78,7 +82,7 @@ module _ {F : Type 0} (ids : Ids F) where
   abbrev pub endless_hint : List Inline → Option Text
   endless_hint [] = None
   endless_hint (i ∷ is) =
-      if list_any is_endless (reference_patterns (find ids) i) then Some (codes "they go on at " ++ in_backticks (inline_fallback i))
+      if list_any is_endless (reference_patterns (find ids) i) then Some (goes_on_text (inline_fallback i))
       else endless_hint is
 
 -- of what a catalog and its reference have

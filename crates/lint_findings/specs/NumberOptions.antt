@@ -6,6 +6,7 @@ use Rattle.fluent_grammar.specs.Escapes.{unescaped}
 use Rattle.fluent_grammar.specs.Words.{Text, is_among}
 use Rattle.fluent_grammar.specs.Tree as t
 use Rattle.fluent_grammar.specs.Tree.{Inline, Nameds}
+use Rattle.lint_findings.specs.Finding.{Remark, remark, warning}
 use Rattle.fluent_number.specs.Merge.{number_type_named, style_named, currency_display_named, asks_for_grouping}
 use Rattle.fluent_number.specs.declared.options.FluentNumberType.{FluentNumberType}
 use Rattle.fluent_number.specs.declared.options.FluentNumberType.TheVariants.{Cardinal, Ordinal}
@@ -93,3 +94,6 @@ misuse_text (unknown_option name) = codes "`NUMBER` has no option `" ++ (name ++
 misuse_text (takes_number name) = codes "the option `" ++ (name ++ codes "` takes a number, without quotes")
 misuse_text (takes_text name) = codes "the option `" ++ (name ++ codes "` takes a text, in quotes")
 misuse_text (unknown_value name raw) = codes "the option `" ++ (name ++ (codes "` has no value `" ++ (raw ++ codes "`")))
+
+abbrev pub misuse_remark : Misuse → Remark
+misuse_remark misuse = remark warning (codes "unknown-option") (misuse_text misuse)

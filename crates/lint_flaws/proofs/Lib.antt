@@ -3,3 +3,4 @@ pub mod Backslashes
 pub mod EscapeThere
 pub mod NearFound
 pub mod Slips
+pub mod Said

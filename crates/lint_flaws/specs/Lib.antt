@@ -1,7 +1,6 @@
 pub mod FlawView
-pub mod HintText
+pub mod Said
 pub mod Common
 pub mod MissingAmong
-pub mod MisuseView
 pub mod Escape
 pub mod Near

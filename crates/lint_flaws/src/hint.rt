@@ -1,155 +1,137 @@
 //! Hints: what may be the cause of a flaw.
 #![tactic(auto)]
 
-ghost use Rattle.std.specs.Prelude.{◌≡◌, IfOk, option_map, Some};
-ghost use Rattle.lint_findings.specs.FlawHints.{flaw_hint, is_message, is_term, no_message_hint, term_hint, value_hint};
+ghost use Rattle.std.specs.Prelude.{◌≡◌, IfOk, string_bytes};
+ghost use Rattle.fluent_ast.specs.Borrowed.{attributes_of};
+ghost use Rattle.lint_findings.specs.FlawHints as h;
 ghost use Rattle.lint_findings.specs.Comparison.{as_message};
-ghost use Rattle.lint_flaws.specs.FlawView.{flaw_view};
-ghost use Rattle.lint_flaws.specs.HintText.{IsHint, IsMessageHint, hint_text};
+ghost use Rattle.lint_findings.specs.NearNames.{nearest_hint};
+ghost use Rattle.lint_flaws.specs.Said.{IsHint, IsMessageHint, near_text};
 ghost use Rattle.fluent_ids.specs.IdsView.{ids_view};
 ghost use Rattle.fluent_meaning.specs.Ids.{find};
 
-use crate::flaw::Flaw;
 use crate::near::{KnownNames, nearest};
+use fluent_ast::Attribute;
 use fluent_ids::Entry;
 use lint_finding::CatalogIds;
 use std::alloc::{AllocError, Global};
-use std::fmt;
 
-/// What may be the cause of a flaw, or of a variable that a reference doesn't have. Its text is that of
-/// `docs/reference/lint.md`.
-#[derive(Drop)]
-pub enum Hint<'s> {
-    /// The message of this id may be meant.
-    NearMessage(String),
-    /// The term of this id may be meant.
-    NearTerm(String),
-    /// The variable of this name may be meant, which the reference has.
-    NearVariable(String),
-    /// The message of this id is in the reference, and not in the catalog.
-    Untranslated(&'s str),
-    /// A variable of this name may be meant.
-    Variable(&'s str),
-    /// There is a message of this id.
-    Message(&'s str),
-    /// There is a term of this id.
-    Term(&'s str),
-    /// The message has an attribute of this name.
-    Attribute(&'s str),
-    /// How the default variant is marked.
-    DefaultMark,
-}
-
-impl fmt::Display for Hint<'_> {
-    ghost output = { λ hint. Some (hint_text hint) };
-
-    fn fmt<W: fmt::Write>(&self, f: &mut fmt::Formatter<W>) -> fmt::Result {
-        match self {
-            Hint::NearMessage(id) => write!(f, "did you mean `{id}`?"),
-            Hint::NearTerm(id) => write!(f, "did you mean `-{id}`?"),
-            Hint::NearVariable(name) => write!(f, "did you mean `${name}`?"),
-            Hint::Untranslated(id) => write!(
-                f,
-                "the reference has the message `{id}`; it isn't translated yet"
-            ),
-            Hint::Variable(id) => write!(f, "a variable is written `${id}`"),
-            Hint::Message(id) => write!(f, "`{id}` is a message"),
-            Hint::Term(id) => write!(f, "`-{id}` is a term"),
-            Hint::Attribute(name) => write!(f, "it has the attribute `.{name}`"),
-            Hint::DefaultMark => f.write_str("write it before a variant, as `*[other]`"),
-        }
+/// The hint that a known name may be meant by this one, which is written with this sign before it.
+///
+/// # Errors
+/// [`AllocError`] if memory runs out; nothing is kept.
+pub fn near_hint<N: KnownNames>(
+    alloc: Global,
+    sign: &str,
+    names: &N,
+    name: &str,
+) -> Result<Option<String>, AllocError>
+    ensures { IfOk result (IsHint (nearest_hint sign.now (N.knows names.now) name.now)) }
+{
+    match nearest(alloc, names, name)? {
+        Some(near) => Ok(Some(near_text(alloc, sign, &near)?)),
+        None => Ok(None),
     }
 }
 
-impl<'a, 's> Flaw<'a, 's> {
-    /// The hint of a flaw, in a catalog with these ids, whose reference has those.
-    ///
-    /// # Errors
-    /// [`AllocError`] if memory runs out; nothing is kept.
-    pub fn hint(
-        &self,
-        alloc: Global,
-        ids: &CatalogIds<'_, 's>,
-        reference: &CatalogIds<'_, 's>,
-    ) -> Result<Option<Hint<'s>>, AllocError>
-        ensures { IfOk result (IsHint
-            (flaw_hint (ids_view _ ids.now) (ids_view _ reference.now) (flaw_view self.now))) }
-    {
-        match self {
-            Flaw::UnknownMessage { id, .. } => message_hint(alloc, ids, reference, id),
-            Flaw::UnknownTerm { id, .. } => term_hint(alloc, ids, id),
-            Flaw::NoValue { id } => Ok(value_hint(ids, id)),
-            Flaw::NoDefault => Ok(Some(Hint::DefaultMark)),
-            Flaw::UnknownFunction { .. } | Flaw::RepeatedKey(_) => Ok(None),
-        }
-    }
+fn near_text(alloc: Global, sign: &str, near: &str) -> Result<String, AllocError>
+    ensures { IfOk result (λ text. string_bytes text ≡ near_text sign.now near.now) }
+{
+    format!(in alloc; "did you mean `{sign}{near}`?")
 }
 
-/// If a message of this id is missing.
-fn message_hint<'r, 's: 'r>(
+/// The hint if a message of this id is missing, in a catalog with these ids, whose reference has those.
+///
+/// # Errors
+/// [`AllocError`] if memory runs out; nothing is kept.
+pub fn message_hint<'r, 's: 'r>(
     alloc: Global,
     ids: &CatalogIds<'r, 's>,
     reference: &CatalogIds<'r, 's>,
-    id: &'s str,
-) -> Result<Option<Hint<'s>>, AllocError>
-    ensures { IfOk result
-        (IsMessageHint (ids_view _ ids.now) (ids_view _ reference.now) id.now) }
+    id: &str,
+) -> Result<Option<String>, AllocError>
+    ensures { IfOk result (IsMessageHint ids.now reference.now id.now) }
 {
     match ids.get(id) {
         None => no_message_hint(alloc, ids, reference, id),
-        Some(Entry::Term(_)) => Ok(Some(Hint::Term(id))),
+        Some(Entry::Term(_)) => Ok(Some(format!(in alloc; "`-{id}` is a term")?)),
         Some(_) => Ok(None),
     }
 }
 
-/// If this id stands for nothing, and a message is meant.
+/// The hint if this id stands for nothing, and a message is meant.
 fn no_message_hint<'r, 's: 'r>(
     alloc: Global,
     ids: &CatalogIds<'r, 's>,
     reference: &CatalogIds<'r, 's>,
-    id: &'s str,
-) -> Result<Option<Hint<'s>>, AllocError>
+    id: &str,
+) -> Result<Option<String>, AllocError>
     ensures { IfOk result (IsHint
-        (no_message_hint (ids_view _ ids.now) (ids_view _ reference.now) id.now)) }
+        (h.no_message_hint (ids_view _ ids.now) (ids_view _ reference.now) id.now)) }
 {
     if (Messages { ids: reference }).has_name(id) {
-        return Ok(Some(Hint::Untranslated(id)));
+        let hint = format!(in alloc;
+            "the reference has the message `{id}`; it isn't translated yet"
+        )?;
+        return Ok(Some(hint));
     }
-    match nearest(alloc, &Messages { ids }, id)? {
-        Some(near) => Ok(Some(Hint::NearMessage(near))),
-        None => Ok(Some(Hint::Variable(id))),
+    match near_hint(alloc, "", &Messages { ids }, id)? {
+        Some(hint) => Ok(Some(hint)),
+        None => Ok(Some(format!(in alloc; "a variable is written `${id}`")?)),
     }
 }
 
-/// If a term of this id is missing.
-fn term_hint<'r, 's: 'r>(
+/// The hint if a term of this id is missing.
+///
+/// # Errors
+/// [`AllocError`] if memory runs out; nothing is kept.
+pub fn term_hint<'r, 's: 'r>(
     alloc: Global,
     ids: &CatalogIds<'r, 's>,
-    id: &'s str,
-) -> Result<Option<Hint<'s>>, AllocError>
+    id: &str,
+) -> Result<Option<String>, AllocError>
     ensures { IfOk result (IsHint
-        (term_hint (ids_view _ ids.now) id.now (find (ids_view _ ids.now) id.now))) }
+        (h.term_hint (ids_view _ ids.now) id.now (find (ids_view _ ids.now) id.now))) }
 {
     match ids.get(id) {
-        None => match nearest(alloc, &Terms { ids }, id)? {
-            Some(near) => Ok(Some(Hint::NearTerm(near))),
-            None => Ok(None),
-        },
-        Some(Entry::Message(_)) => Ok(Some(Hint::Message(id))),
+        None => near_hint(alloc, "-", &Terms { ids }, id),
+        Some(Entry::Message(_)) => Ok(Some(format!(in alloc; "`{id}` is a message")?)),
         Some(_) => Ok(None),
     }
 }
 
-/// If the message of this id has no value.
-fn value_hint<'s>(ids: &CatalogIds<'_, 's>, id: &str) -> Option<Hint<'s>>
-    ensures { option_map hint_text result
-        ≡ value_hint (as_message (find (ids_view _ ids.now) id.now)) }
+/// The hint if the message of this id has no value.
+///
+/// # Errors
+/// [`AllocError`] if memory runs out; nothing is kept.
+pub fn value_hint(
+    alloc: Global,
+    ids: &CatalogIds<'_, '_>,
+    id: &str,
+) -> Result<Option<String>, AllocError>
+    ensures { IfOk result (IsHint
+        (h.value_hint (as_message (find (ids_view _ ids.now) id.now)))) }
 {
-    let Some(Entry::Message((_, message))) = ids.get(id) else {
-        return None;
-    };
-    let attribute = message.attributes.first()?;
-    Some(Hint::Attribute(attribute.id.name))
+    match ids.get(id) {
+        Some(Entry::Message((_, message))) => first_attribute_hint(alloc, &message.attributes),
+        _ => Ok(None),
+    }
+}
+
+/// The hint that a message has the first of these attributes.
+fn first_attribute_hint(
+    alloc: Global,
+    attributes: &[Attribute<&str>],
+) -> Result<Option<String>, AllocError>
+    ensures { IfOk result (IsHint (h.first_attribute_hint (attributes_of attributes.now))) }
+{
+    match attributes.first() {
+        Some(first) => {
+            let name = first.id.name;
+            Ok(Some(format!(in alloc; "it has the attribute `.{name}`")?))
+        }
+        None => Ok(None),
+    }
 }
 
 /// The ids of messages.
@@ -159,7 +141,7 @@ struct Messages<'c, 'r, 's: 'r> {
 }
 
 impl<'c, 'r, 's: 'r> KnownNames for Messages<'c, 'r, 's> {
-    ghost knows = { λ messages. is_message (ids_view _ messages.ids.now) };
+    ghost knows = { λ messages. h.is_message (ids_view _ messages.ids.now) };
 
     fn has_name(&self, name: &str) -> bool {
         matches!(self.ids.get(name), Some(Entry::Message(_)))
@@ -173,7 +155,7 @@ struct Terms<'c, 'r, 's: 'r> {
 }
 
 impl<'c, 'r, 's: 'r> KnownNames for Terms<'c, 'r, 's> {
-    ghost knows = { λ terms. is_term (ids_view _ terms.ids.now) };
+    ghost knows = { λ terms. h.is_term (ids_view _ terms.ids.now) };
 
     fn has_name(&self, name: &str) -> bool {
         matches!(self.ids.get(name), Some(Entry::Term(_)))

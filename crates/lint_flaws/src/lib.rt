@@ -1,11 +1,10 @@
 //! What is wrong with the nodes of a pattern, in a catalog.
 //!
-//! [`node_flaw`] looks a node up in the ids of a catalog. A [`Flaw`] has a code and a text, and often a [`Hint`]:
-//! a name that it looks like ([`nearest`]), or what else may be meant.
-//! [`node_categories`] lists the plural categories that a translator may have forgotten, and [`node_escapes`] the escapes
-//! of string literals that stand for no character: `\uD83D` is half of a pair, and `\U110000` is too large.
-//! [`node_misuses`] lists the options of `NUMBER` that it makes nothing of.
-//! `docs/reference/lint.md` has the rules in plain words.
+//! [`node_remarks`] says all that is wrong with a node: what a reference lacks, with a name that it
+//! looks like ([`near_hint`]) or what else may be meant, the plural categories that a translator may
+//! have forgotten, the escapes of string literals that stand for no character, as half of a pair,
+//! `\uD83D`, or `\U110000`, which is too large, and the options of `NUMBER` that it makes nothing
+//! of. `docs/reference/lint.md` has the rules in plain words.
 #![tactic(auto)]
 
 mod common;
@@ -15,19 +14,13 @@ mod flaw;
 mod hint;
 mod literal;
 mod missing;
-mod misuse;
 mod near;
 mod nodes;
 mod options;
+mod remarks;
 mod rules;
 
 pub use common::CommonCategories;
-pub use escape_nodes::node_escapes;
-pub use flaw::Flaw;
-pub use hint::Hint;
-pub use missing::node_categories;
-pub use misuse::Misuse;
-pub use near::{KnownNames, nearest};
-pub use nodes::node_flaw;
-pub use options::node_misuses;
-pub use rules::category_text;
+pub use hint::near_hint;
+pub use near::KnownNames;
+pub use remarks::node_remarks;

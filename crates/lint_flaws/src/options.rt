@@ -1,46 +1,52 @@
 //! The options of `NUMBER`.
 #![tactic(auto)]
 
-ghost use Rattle.std.specs.Prelude.{◌≡◌, IfOk, OnOk, map, option_copied};
-ghost use Rattle.std.specs.Option.{option_to_list};
+ghost use Rattle.std.specs.Prelude.{◌≡◌, IfOk, OnOk, codes, option_copied, string_bytes};
 ghost use Rattle.fluent_ast.specs.Borrowed.{inline_of, named_of};
 ghost use Rattle.fluent_grammar.specs.Tree.{string_literal};
 ghost use Rattle.fluent_grammar.specs.Words.{is_among};
+ghost use Rattle.lint_finding.specs.View.{remark_view};
 ghost use Rattle.lint_findings.specs.EntryFindings as e;
+ghost use Rattle.lint_findings.specs.Finding as f;
 ghost use Rattle.lint_findings.specs.NumberOptions as n;
-ghost use Rattle.lint_flaws.specs.MisuseView.{AddsMisuses, IsMisuse, misuse_view};
+ghost use Rattle.lint_flaws.specs.Said.{AddsMisuse, AddsMisuses, IsOnMisuse};
 ghost use Rattle.lint_nodes.specs.NodeView.{node_view};
 
-use crate::misuse::Misuse;
 use fluent_ast::{InlineExpression, NamedArgument};
 use fluent_number::{FluentNumberCurrencyDisplayStyle, FluentNumberStyle, FluentNumberType};
 use fluent_tokens::unicode::unescape_unicode_to_string;
+use lint_finding::Remark;
 use lint_nodes::Node;
 use std::alloc::{AllocError, Global};
 
-/// The named arguments of a node that `NUMBER` makes nothing of, if the node is a call of it.
+/// Adds what is said of the named arguments of a node that `NUMBER` makes nothing of, if the node
+/// is a call of it.
 ///
 /// # Errors
-/// [`AllocError`] if memory runs out; nothing is kept.
-pub fn node_misuses<'s>(alloc: Global, node: Node<'_, 's>) -> Result<Vec<Misuse<'s>>, AllocError>
-    ensures { IfOk result (λ found. map misuse_view found.items
-        ≡ e.node_misuses (node_view node.entry)) }
+/// [`AllocError`] if memory runs out; `found` then holds its old remarks and some of these.
+pub fn push_misuses(
+    alloc: Global,
+    node: Node<'_, '_>,
+    found: &mut Vec<Remark>,
+) -> Result<(), AllocError>
+    ensures { OnOk result (AddsMisuses (e.node_misuses (node_view node.entry)) found.old found.new) }
 {
-    let mut found = Vec::new(alloc);
-    if let Node::Expression(InlineExpression::FunctionReference { id, arguments }) = node {
-        push_call(alloc, id.name, &arguments.named, &mut found)?;
+    match node {
+        Node::Expression(InlineExpression::FunctionReference { id, arguments }) => {
+            push_call(alloc, id.name, &arguments.named, found)
+        }
+        _ => Ok(()),
     }
-    Ok(found)
 }
 
 /// Adds those of a call of the function of this name.
-fn push_call<'s>(
+fn push_call(
     alloc: Global,
     id: &str,
-    named: &[NamedArgument<&'s str>],
-    found: &mut Vec<Misuse<'s>>,
+    named: &[NamedArgument<&str>],
+    found: &mut Vec<Remark>,
 ) -> Result<(), AllocError>
-    ensures { OnOk result (AddsMisuses found.old found.new (n.call_misuses id.now (named_of named.now))) }
+    ensures { OnOk result (AddsMisuses (n.call_misuses id.now (named_of named.now)) found.old found.new) }
 {
     if id == "NUMBER" {
         push_named(alloc, named, found)?;
@@ -48,95 +54,114 @@ fn push_call<'s>(
     Ok(())
 }
 
-fn push_named<'s>(
+fn push_named(
     alloc: Global,
-    named: &[NamedArgument<&'s str>],
-    found: &mut Vec<Misuse<'s>>,
+    named: &[NamedArgument<&str>],
+    found: &mut Vec<Remark>,
 ) -> Result<(), AllocError>
-    ensures { OnOk result (AddsMisuses found.old found.new (n.named_misuses (named_of named.now))) }
+    ensures { OnOk result (AddsMisuses (n.named_misuses (named_of named.now)) found.old found.new) }
 {
     for argument in named {
-        let misuse = literal_misuse(alloc, argument.name.name, &argument.value)?;
-        push_misuse(misuse, found)?;
+        push_literal(alloc, argument.name.name, &argument.value, found)?;
     }
     Ok(())
 }
 
-fn push_misuse<'s>(
-    misuse: Option<Misuse<'s>>,
-    found: &mut Vec<Misuse<'s>>,
-) -> Result<(), AllocError>
-    ensures { OnOk result (AddsMisuses found.old found.new (map misuse_view (option_to_list misuse.entry))) }
-{
-    if let Some(misuse) = misuse {
-        found.push(misuse)?;
-    }
-    Ok(())
-}
-
-/// What is wrong with an argument of this name.
-fn literal_misuse<'s>(
+fn push_literal(
     alloc: Global,
-    name: &'s str,
-    value: &InlineExpression<&'s str>,
-) -> Result<Option<Misuse<'s>>, AllocError>
-    ensures { IfOk result (λ found. IsMisuse found
-        (n.literal_misuse name.now (inline_of value.now))) }
+    name: &str,
+    value: &InlineExpression<&str>,
+    found: &mut Vec<Remark>,
+) -> Result<(), AllocError>
+    ensures { OnOk result (AddsMisuse (n.literal_misuse name.now (inline_of value.now)) found.old found.new) }
+{
+    match literal_misuse(alloc, name, value)? {
+        Some(misuse) => {
+            found.push(misuse)?;
+            Ok(())
+        }
+        None => Ok(()),
+    }
+}
+
+/// The remark on an argument of this name, if `NUMBER` makes nothing of it.
+fn literal_misuse(
+    alloc: Global,
+    name: &str,
+    value: &InlineExpression<&str>,
+) -> Result<Option<Remark>, AllocError>
+    ensures { IfOk result (IsOnMisuse (n.literal_misuse name.now (inline_of value.now))) }
 {
     match value {
         InlineExpression::StringLiteral { value } => text_misuse(alloc, name, *value),
-        InlineExpression::NumberLiteral { .. } => Ok(number_misuse(name)),
+        InlineExpression::NumberLiteral { .. } => number_misuse(alloc, name),
         _ => Ok(None),
     }
 }
 
-/// The same, of one with a text.
-fn text_misuse<'s>(
-    alloc: Global,
-    name: &'s str,
-    raw: &'s str,
-) -> Result<Option<Misuse<'s>>, AllocError>
-    ensures { IfOk result (λ found. IsMisuse found
-        (n.literal_misuse name.now (string_literal raw.now))) }
+/// The remark on an argument that is a text.
+fn text_misuse(alloc: Global, name: &str, raw: &str) -> Result<Option<Remark>, AllocError>
+    ensures { IfOk result (IsOnMisuse (n.literal_misuse name.now (string_literal raw.now))) }
 {
     let text = unescape_unicode_to_string(alloc, raw)?;
-    Ok(unescaped_misuse(name, raw, text.as_str()))
+    unescaped_misuse(alloc, name, raw, text.as_str())
 }
 
-/// The same, of one with this text after escapes are read.
-fn unescaped_misuse<'s>(name: &'s str, raw: &'s str, text: &str) -> Option<Misuse<'s>>
-    ensures { IsMisuse result
-        (n.text_misuse name.now raw.now text.now (n.value_named name.now text.now)) }
+/// The remark on an argument that is this text once its escapes are read.
+fn unescaped_misuse(
+    alloc: Global,
+    name: &str,
+    raw: &str,
+    text: &str,
+) -> Result<Option<Remark>, AllocError>
+    ensures { IfOk result (IsOnMisuse (n.text_misuse name.now raw.now text.now (n.value_named name.now text.now))) }
 {
     match value_named(name, text) {
         Some(value) => {
             if text == value {
-                None
+                Ok(None)
             } else {
-                Some(Misuse::UnknownValue { name, raw })
+                let text = format!(in alloc; "the option `{name}` has no value `{raw}`")?;
+                Ok(Some(misuse(text)))
             }
         }
         None => {
             if takes_digits(name) {
-                Some(Misuse::TakesNumber(name))
+                let text = format!(in alloc; "the option `{name}` takes a number, without quotes")?;
+                Ok(Some(misuse(text)))
             } else {
-                Some(Misuse::UnknownOption(name))
+                Ok(Some(unknown_option(alloc, name)?))
             }
         }
     }
 }
 
-/// The same, of one with a number.
-fn number_misuse<'s>(name: &'s str) -> Option<Misuse<'s>>
-    ensures { IsMisuse result (n.number_misuse name.now) }
+/// The remark on an argument that is a number.
+fn number_misuse(alloc: Global, name: &str) -> Result<Option<Remark>, AllocError>
+    ensures { IfOk result (IsOnMisuse (n.number_misuse name.now)) }
 {
     if takes_digits(name) {
-        None
+        Ok(None)
     } else if value_named(name, "").is_some() {
-        Some(Misuse::TakesText(name))
+        let text = format!(in alloc; "the option `{name}` takes a text, in quotes")?;
+        Ok(Some(misuse(text)))
     } else {
-        Some(Misuse::UnknownOption(name))
+        Ok(Some(unknown_option(alloc, name)?))
     }
+}
+
+fn unknown_option(alloc: Global, name: &str) -> Result<Remark, AllocError>
+    ensures { IfOk result (λ said. remark_view said
+        ≡ n.misuse_remark (n.unknown_option name.now)) }
+{
+    let text = format!(in alloc; "`NUMBER` has no option `{name}`")?;
+    Ok(misuse(text))
+}
+
+fn misuse(text: String) -> Remark
+    ensures { remark_view result ≡ f.remark f.warning (codes "unknown-option") (string_bytes text) }
+{
+    Remark::warning("unknown-option", text)
 }
 
 /// Whether the option of this name takes a number.

@@ -1,0 +1,51 @@
+-- The findings of a node: of its flaws, and others, which no law is about.
+use Rattle.std.proofs.Common.{◌≡◌, ◌∙◌, false, List, [], ◌∷◌, ◌++◌, map, Option, refl, ap}
+use Rattle.std.specs.Prelude.{codes}
+use Rattle.std.specs.List.{All}
+use Rattle.std.specs.Str.{bytes_eq}
+use Rattle.std.proofs.lemmas.List.{map-append}
+use Rattle.std.proofs.lemmas.List.Elements.{All-nil, All-cons, All-append}
+use Rattle.fluent_grammar.specs.Words.{Text, is_among}
+use Rattle.fluent_plurals.specs.declared.plurals.LanguagePlurals.{LanguagePlurals}
+use Rattle.fluent_meaning.specs.Ids.{Ids}
+use Rattle.lint_findings.specs.Finding.{Finding, Remark}
+use Rattle.lint_findings.specs.FindingLaws.{syntax_codes, reference_codes}
+use Rattle.lint_findings.specs.Flaws.{Flaw}
+use Rattle.lint_findings.specs.Nodes.{Node}
+use Rattle.lint_findings.specs.NumberOptions.{misuse_remark}
+use Rattle.lint_findings.specs.EntryFindings.{flaw_remark, category_remark, escape_remark, node_flaws, node_categories, node_escapes, node_misuses, node_doubts, node_findings, finding_in}
+
+-- of a flaw of a node
+abbrev pub flaw_finding : {F : Type 0} → Ids F → Ids F → Text → Text → Text → Flaw → Finding
+flaw_finding ids reference source owner at flaw = finding_in source owner at (flaw_remark ids reference flaw)
+
+made : {A : Type 0} (make : Remark → Finding) (say : A → Remark) (xs : List A) → map make (map say xs) ≡ map (λ x. make (say x)) xs
+made make say [] = refl
+made make say (x ∷ xs) = ap (λ ys. make (say x) ∷ ys) (made make say xs)
+
+module _ {F : Type 0} (ids reference : Ids F) (plurals : Option LanguagePlurals) (source owner at : Text) where
+  pub node_findings_are : (node : Node) → node_findings ids reference plurals source owner at node
+      ≡ map (flaw_finding ids reference source owner at) (node_flaws ids node) ++ map (finding_in source owner at) (node_doubts plurals node)
+  node_findings_are node =
+      let make = finding_in source owner at in
+      let flaws = node_flaws ids node in
+      map-append make (map (flaw_remark ids reference) flaws) (node_doubts plurals node)
+      ∙ ap (λ fs. fs ++ map make (node_doubts plurals node)) (made make (flaw_remark ids reference) flaws)
+
+-- a remark with a code that no law is about
+pub record IsPlain (r : Remark) : Type 0 where
+  pub no_syntax : is_among r.code syntax_codes ≡ false
+  pub no_reference : is_among r.code reference_codes ≡ false
+  pub no_variant : bytes_eq r.code (codes "duplicate-variant") ≡ false
+
+all_plain : {A : Type 0} (say : A → Remark) → ((x : A) → IsPlain (say x)) → (xs : List A) → All IsPlain (map say xs)
+all_plain say h [] = All-nil IsPlain
+all_plain say h (x ∷ xs) = All-cons IsPlain (say x) (map say xs) (h x) (all_plain say h xs)
+
+pub doubts_are_plain : (plurals : Option LanguagePlurals) (node : Node) → All IsPlain (node_doubts plurals node)
+doubts_are_plain plurals node =
+    All-append IsPlain (map category_remark (node_categories plurals node)) _
+    (all_plain category_remark (λ c. record { no_syntax = refl; no_reference = refl; no_variant = refl }) (node_categories plurals node))
+    (All-append IsPlain (map escape_remark (node_escapes node)) _
+    (all_plain escape_remark (λ x. record { no_syntax = refl; no_reference = refl; no_variant = refl }) (node_escapes node))
+    (all_plain misuse_remark (λ m. record { no_syntax = refl; no_reference = refl; no_variant = refl }) (node_misuses node)))

@@ -1,0 +1,108 @@
+//! The remarks on a node.
+#![tactic(auto)]
+
+ghost use Rattle.std.specs.Prelude.{◌≡◌, IfOk, OnOk, map};
+ghost use Rattle.lint_finding.specs.View.{remark_view};
+ghost use Rattle.lint_findings.specs.EntryFindings as e;
+ghost use Rattle.lint_flaws.specs.Common.{AreCommonBy};
+ghost use Rattle.lint_flaws.specs.Said.{AddsCategories, AddsFlaw, AddsRemarks, AreOnNode};
+ghost use Rattle.lint_nodes.specs.NodeView.{node_view};
+
+use crate::common::CommonCategories;
+use crate::escape_nodes::node_escapes;
+use crate::missing::node_categories;
+use crate::nodes::node_flaw;
+use crate::options::push_misuses;
+use crate::rules::category_text;
+use fluent_number::PluralCategory;
+use fluent_plurals::LanguagePlurals;
+use lint_finding::{CatalogIds, Remark};
+use lint_nodes::Node;
+use std::alloc::{AllocError, Global};
+
+/// All that is said of a node, in a catalog with these ids, whose reference has those: its flaw,
+/// the plural categories that it lacks by the rules of a language, in which these are common, its
+/// invalid escapes, and the arguments that `NUMBER` makes nothing of.
+///
+/// # Errors
+/// [`AllocError`] if memory runs out; nothing is kept.
+pub fn node_remarks<'s>(
+    alloc: Global,
+    ids: &CatalogIds<'_, 's>,
+    reference: &CatalogIds<'_, 's>,
+    plurals: Option<LanguagePlurals>,
+    common: &CommonCategories,
+    node: Node<'_, 's>,
+) -> Result<Vec<Remark>, AllocError>
+    requires { AreCommonBy plurals common.now }
+    ensures { IfOk result (AreOnNode ids.now reference.now plurals (node_view node.entry)) }
+{
+    let mut found = Vec::new(alloc);
+    push_flaw(alloc, ids, reference, node, &mut found)?;
+    push_categories(alloc, plurals, common, node, &mut found)?;
+    push_escapes(alloc, node, &mut found)?;
+    push_misuses(alloc, node, &mut found)?;
+    Ok(found)
+}
+
+fn push_flaw<'s>(
+    alloc: Global,
+    ids: &CatalogIds<'_, 's>,
+    reference: &CatalogIds<'_, 's>,
+    node: Node<'_, 's>,
+    found: &mut Vec<Remark>,
+) -> Result<(), AllocError>
+    ensures { OnOk result (AddsFlaw ids.now reference.now (node_view node.entry) found.old found.new) }
+{
+    if let Some(flaw) = node_flaw(ids, node) {
+        found.push(flaw.remark(alloc, ids, reference)?)?;
+    }
+    Ok(())
+}
+
+fn push_categories(
+    alloc: Global,
+    plurals: Option<LanguagePlurals>,
+    common: &CommonCategories,
+    node: Node<'_, '_>,
+    found: &mut Vec<Remark>,
+) -> Result<(), AllocError>
+    requires { AreCommonBy plurals common.now }
+    ensures { OnOk result (AddsCategories plurals (node_view node.entry) found.old found.new) }
+{
+    let categories = node_categories(alloc, plurals, common, node)?;
+    for category in &categories {
+        found.push(category_remark(alloc, *category)?)?;
+    }
+    Ok(())
+}
+
+fn category_remark(alloc: Global, category: PluralCategory) -> Result<Remark, AllocError>
+    ensures { IfOk result (λ said. remark_view said ≡ e.category_remark category) }
+{
+    let name = category_text(category);
+    let text = format!(in alloc; "there is no variant for the plural category `{name}`")?;
+    Ok(Remark::warning("missing-category", text))
+}
+
+fn push_escapes(
+    alloc: Global,
+    node: Node<'_, '_>,
+    found: &mut Vec<Remark>,
+) -> Result<(), AllocError>
+    ensures { OnOk result (AddsRemarks found.old found.new
+        (map e.escape_remark (e.node_escapes (node_view node.entry)))) }
+{
+    let escapes = node_escapes(alloc, node)?;
+    for escape in &escapes {
+        found.push(escape_remark(alloc, *escape)?)?;
+    }
+    Ok(())
+}
+
+fn escape_remark(alloc: Global, escape: &str) -> Result<Remark, AllocError>
+    ensures { IfOk result (λ said. remark_view said ≡ e.escape_remark escape.now) }
+{
+    let text = format!(in alloc; "`{escape}` isn't a character, and is shown as U+FFFD")?;
+    Ok(Remark::warning("invalid-escape", text))
+}
