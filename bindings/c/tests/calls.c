@@ -124,6 +124,30 @@ static void try_others(struct Tally *tally) {
     fluent_free_text(&texts.errors);
 }
 
+/* What asks as if there were no functions. A call after it knows them still. */
+static void try_as_if_none(struct Tally *tally, struct FluentBundle *bundle) {
+    static const struct Row called = {"twice", BYTES("twice"), NONE, {SAYS(PLATFORM, "3")}, 1, FLUENT_READ, {0}, {0}};
+    static const struct Bytes os = BYTES("os"), twice = BYTES("twice"), platform = BYTES("PLATFORM");
+    static const struct Bytes unknown = BYTES("Preferences {LATER()}"), titles = BYTES("title\n"), n = BYTES("n\n");
+    static const struct Bytes errors = BYTES("Unknown function: LATER()\n");
+    static const struct Bytes messages = BYTES("os\ntwice\ngone\nDAY-light\nplain\ntitled\nHERE\nbelow\n");
+    struct Texts texts = {{0}, {0}, {0}};
+    const uint8_t *none = (const uint8_t *)"";
+    count_try(tally, "a function that is a message", fluent_bundle_has(bundle, platform.at, platform.len, none, 0) == FLUENT_NO_MESSAGE
+        && fluent_bundle_has(bundle, os.at, os.len, none, 0) == FLUENT_READ);
+    count_try(tally, "functions that are unknown",
+        fluent_bundle_format(bundle, os.at, os.len, none, 0, &N, 1, &texts.text, &texts.errors) == FLUENT_READ
+            && holds(&texts.text, unknown) && holds(&texts.errors, errors));
+    count_try(tally, "messages", fluent_bundle_messages(bundle, &texts.text) == FLUENT_READ && holds(&texts.text, messages));
+    count_try(tally, "attributes",
+        fluent_bundle_attributes(bundle, twice.at, twice.len, &texts.text) == FLUENT_READ && holds(&texts.text, titles));
+    count_try(tally, "variables", fluent_bundle_variables(bundle, os.at, os.len, &texts.text) == FLUENT_READ && holds(&texts.text, n));
+    count_try(tally, "functions that are known", ask(bundle, &called, &N, &texts) == FLUENT_READ && !texts.errors.held);
+    fluent_free_text(&texts.text);
+    fluent_free_text(&texts.errors);
+    fluent_free_text(&texts.call);
+}
+
 static bool try_making(void) {
     static const struct FluentSource other = BYTES("\xff");
     struct Tally made = {"fluent_bundle_new_calling", 0, 0};
@@ -152,6 +176,7 @@ bool try_calls(void) {
     for (int held = 0; held < 2; held++)
         for (size_t i = 0; i < sizeof ROWS / sizeof *ROWS; i++)
             count_try(&called, ROWS[i].name, is_right(&bundle, &ROWS[i], held));
+    try_as_if_none(&called, &bundle);
     fluent_bundle_free(&bundle);
     try_others(&called);
     return is_made & print_tally(&called);

@@ -74,6 +74,14 @@ static uint32_t call_with(struct Kept *kept, size_t answers) {
 }
 static uint32_t call_missing(struct Kept *kept) { return call_with(kept, 0); }
 static uint32_t call_answered(struct Kept *kept) { return call_with(kept, 1); }
+static uint32_t format_calling(struct Kept *kept) {
+    struct Kept calling = {.bundle = {0}};
+    uint32_t status = make_calling(&calling);
+    if (status == FLUENT_READ)
+        status = fluent_bundle_format(&calling.bundle, TEXT("a"), TEXT(""), &ANSWER, 0, &kept->text, &kept->errors);
+    fluent_bundle_free(&calling.bundle);
+    return status;
+}
 static uint32_t messages(struct Kept *kept) { return fluent_bundle_messages(&kept->bundle, &kept->text); }
 static uint32_t attributes(struct Kept *kept) { return fluent_bundle_attributes(&kept->bundle, TEXT("welcome"), &kept->text); }
 static uint32_t variables(struct Kept *kept) { return fluent_bundle_variables(&kept->bundle, TEXT("broken"), &kept->text); }
@@ -120,6 +128,7 @@ static const struct {
     {"fluent_bundle_new_calling", make_calling},
     {"fluent_bundle_call without an answer", call_missing},
     {"fluent_bundle_call", call_answered},
+    {"fluent_bundle_format of a bundle with functions", format_calling},
     {"fluent_bundle_messages", messages},
     {"fluent_bundle_attributes", attributes},
     {"fluent_bundle_variables", variables},
