@@ -13,3 +13,7 @@ are_for_people (word ∷ words) =
 -- more is said of a fault than its line: by such a command, or on a terminal
 abbrev pub explains : Terminals → List Text → Bool
 explains screens words = screens.faults || are_for_people words
+
+-- no stream is a terminal
+abbrev pub no_terminals : Terminals
+no_terminals = record { colours = false; faults = false }

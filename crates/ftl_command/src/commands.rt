@@ -1,11 +1,12 @@
 //! The program: its words, its files and its streams.
-ghost use Rattle.std.specs.Prelude.{◌≡◌, ◌∷◌, [], None, Some, Contains};
+ghost use Rattle.std.specs.Prelude.{◌≡◌, ◌∷◌, [], false, None, Some, Contains};
 ghost use Rattle.ftl_arguments.specs.CommandView.{command_view};
 ghost use Rattle.ftl_arguments.specs.Meaning.{AskForText, AskForHelpAlone, AskForVersionAlone, command_of, texts};
 ghost use Rattle.ftl_command.specs.Ends.{EndsOn, EndsOver};
 ghost use Rattle.ftl_command.specs.InPlace.{FilesEndBy, FilesEndFor};
 ghost use Rattle.ftl_command.specs.Program.{CommandEndsOn, IsRefused, WithoutInput};
 ghost use Rattle.ftl_command.specs.Refusals.{AnswersHelp, DevicesEnd};
+ghost use Rattle.ftl_command.specs.Terminals.{no_terminals};
 
 use crate::checking::check_files;
 use crate::ended::Ended;
@@ -27,11 +28,38 @@ use std::alloc::Global;
 use std::io;
 use std::rt::Files;
 
-/// Runs the program on its command-line arguments, and returns the status that it ends with: 0, or 1
-/// if a check found something, or that of the first failure, which is reported on one line of
-/// `faults`. On a terminal, and for a command that people type, more lines say why it came. `lint`
-/// and `tidy` report all failures of files, and the highest status counts.
+/// Runs the program on its command-line arguments with streams that are no terminals, and returns
+/// the status that it ends with: 0, or 1 if a check found something, or that of the first failure,
+/// which is reported on one line of `faults`. For a command that people type, more lines say why it
+/// came. `lint` and `tidy` report all failures of files, and the highest status counts.
 pub fn program<R: Files, I: io::Read + Drop, O: io::Write + Drop, F: io::Write + Drop>(
+    rt: &R,
+    alloc: Global,
+    words: &[&str],
+    input: I,
+    output: O,
+    faults: F,
+) -> u8
+    ensures statuses { Contains (0 ∷ 1 ∷ 2 ∷ 3 ∷ 4 ∷ []) result }
+    ensures refused { result ≡ 2 → IsRefused (command_of false (texts words.now)) }
+    ensures not_help { result ≡ 2 → ¬ AskForHelpAlone (texts words.now) }
+    ensures not_version { result ≡ 2 → ¬ AskForVersionAlone (texts words.now) }
+    ensures served { result ≡ 0 → command_of false (texts words.now) ≡ None
+        → AskForText (texts words.now) }
+    ensures ended { EndsOver (I.remaining input) (O.contents output) (F.contents faults)
+        no_terminals (texts words.now) result }
+{
+    let screens = Terminals {
+        colours: false,
+        faults: false,
+    };
+    program_shown(rt, alloc, words, screens, input, output, faults)
+}
+
+/// Runs the program as [`program`] does, with streams some of which may be terminals: colours are
+/// for one that shows them, and on a terminal more lines say why a failure came, whatever the
+/// command.
+pub fn program_shown<R: Files, I: io::Read + Drop, O: io::Write + Drop, F: io::Write + Drop>(
     rt: &R,
     alloc: Global,
     words: &[&str],

@@ -28,7 +28,7 @@ pub mod telling;
 pub mod terminals;
 pub mod tidying;
 
-pub use commands::program;
+pub use commands::{program, program_shown};
 pub use ftl_arguments::{
     Command, CommandError, Format, Invocation, Lint, ReportFormat, Tidy, TidyFiles, VERSION,
     command,

@@ -13,12 +13,6 @@ pub struct Terminals {
 }
 
 impl Terminals {
-    /// Streams that programs read.
-    pub const NONE: Terminals = Terminals {
-        colours: false,
-        faults: false,
-    };
-
     /// Whether a command with these arguments says more of a fault than its line.
     pub(crate) fn explain(self, words: &[&str]) -> bool
         ensures { result ≡ explains self (texts words.now) }

@@ -1,6 +1,6 @@
 //! Runs of the program by its words, over the files of `crates/all_rows/data`.
 
-use ftl_command::{Terminals, program};
+use ftl_command::program;
 use rows_common::{Lines, Tally, Trial, try_lines};
 use serde_json::Value;
 use std::alloc::{AllocError, Global};
@@ -68,7 +68,6 @@ impl Trial for Words<'_> {
             self.rt,
             alloc,
             self.words,
-            Terminals::NONE,
             self.requests,
             &mut given,
             &mut told,

@@ -1,4 +1,4 @@
-use Rattle.ftl_command.proofs.commands.program.Goals as goal
+use Rattle.ftl_command.proofs.commands.program_shown.Goals as goal
 
 pub returns-clause-ended : goal.returns-clause-ended
 returns-clause-ended g c = record {
