@@ -15,5 +15,5 @@ abbrev pub explains : Terminals → List Text → Bool
 explains screens words = screens.faults || are_for_people words
 
 -- no stream is a terminal
-abbrev pub no_terminals : Terminals
-no_terminals = record { colours = false; faults = false }
+abbrev pub piped : Terminals
+piped = record { colours = false; faults = false }

@@ -6,7 +6,7 @@ ghost use Rattle.ftl_command.specs.Ends.{EndsOn, EndsOver};
 ghost use Rattle.ftl_command.specs.InPlace.{FilesEndBy, FilesEndFor};
 ghost use Rattle.ftl_command.specs.Program.{CommandEndsOn, IsRefused, WithoutInput};
 ghost use Rattle.ftl_command.specs.Refusals.{AnswersHelp, DevicesEnd};
-ghost use Rattle.ftl_command.specs.Terminals.{no_terminals};
+ghost use Rattle.ftl_command.specs.Terminals.{piped};
 
 use crate::checking::check_files;
 use crate::ended::Ended;
@@ -47,7 +47,7 @@ pub fn program<R: Files, I: io::Read + Drop, O: io::Write + Drop, F: io::Write +
     ensures served { result ≡ 0 → command_of false (texts words.now) ≡ None
         → AskForText (texts words.now) }
     ensures ended { EndsOver (I.remaining input) (O.contents output) (F.contents faults)
-        no_terminals (texts words.now) result }
+        piped (texts words.now) result }
 {
     let screens = Terminals {
         colours: false,
