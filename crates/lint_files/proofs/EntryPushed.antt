@@ -1,7 +1,6 @@
 -- What is found of an entry, one after the other.
-use Rattle.std.proofs.Common.{◌≡◌, ◌∙◌, ℕ, Bool, true, false, if◌then◌else◌, List, [], ◌++◌, length, map, Option, Some, None, option_to_list, refl, sym, ap}
+use Rattle.std.proofs.Common.{◌≡◌, ◌∙◌, ℕ, Bool, true, false, if◌then◌else◌, List, [], ◌++◌, length, map, Option, Some, None, option_to_list, refl, sym, ap, append_assoc}
 use Rattle.std.specs.Prelude.{◌==◌, is_some, not}
-use Rattle.lint_entries.proofs.Pushed.{three_added}
 use Rattle.lint_entries.specs.AttributePlaces.{uncommented}
 use Rattle.lint_finding.specs.View.{finding_view}
 use Rattle.lint_finding.specs.declared.records.Finding as code
@@ -15,6 +14,13 @@ use Rattle.fluent_grammar.specs.Tree as t
 use Rattle.fluent_grammar.specs.Words.{Text}
 use Rattle.fluent_meaning.specs.Ids.{Ids}
 use Rattle.lint_files.specs.PartFindings.{entry_findings_at, offset_in}
+
+-- twice and three times in a row
+two_added : (a l m : List Finding) {b c : List Finding} → b ≡ a ++ l → c ≡ b ++ m → c ≡ a ++ (l ++ m)
+two_added a l m p q = q ∙ ap (λ z. z ++ m) p ∙ append_assoc a l m
+
+three_added : (a l m n : List Finding) {b c d : List Finding} → b ≡ a ++ l → c ≡ b ++ m → d ≡ c ++ n → d ≡ a ++ (l ++ (m ++ n))
+three_added a l m n {b = b} p q r = two_added a l (m ++ n) p (two_added b m n q r)
 
 same_id : (e : t.Entry) → id_of (uncommented e) ≡ id_of e
 same_id (t.message m) = refl
