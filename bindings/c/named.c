@@ -136,7 +136,7 @@ static void try_lint(void) {
     struct FluentText report = {0};
     const struct FluentFile files[] = {fluent_file("de.ftl", "hi = { F() }\n"), fluent_file("", NULL)};
     const struct FluentFile reference = fluent_file("en.ftl", "hi = { F() }\n");
-    struct FluentLintOptions strict = FLUENT_LINT_OPTIONS;
+    struct FluentLintOptions strict = {0};
     strict.strict = true;
     check("no file", fluent_lint_of(NULL, 0, NULL, 0, NULL, &report) == FLUENT_READ && holds(&report, ""));
     check("a warning", fluent_lint_of(files, 2, NULL, 0, NULL, &report) == FLUENT_READ && report.len > 0);
