@@ -263,8 +263,7 @@ static inline struct FluentFile fluent_file(const char *name, const char *text) 
     return file;
 }
 
-/* fluent_lint. `references` may be NULL if there are none, and so may `options`, its functions and its locale. The options may
- * begin as `{0}`: their size is that of your header. */
+/* fluent_lint. `references` may be NULL if there are none, and so may `options`, its functions and its locale. */
 static inline uint32_t fluent_lint_of(
     const struct FluentFile *files, size_t count, const struct FluentFile *references, size_t reference_count,
     const struct FluentLintOptions *options, struct FluentText *report) {
@@ -273,7 +272,6 @@ static inline uint32_t fluent_lint_of(
     struct FluentLintOptions asked = {0};
     if (options)
         asked = *options;
-    asked.size = sizeof asked;
     if (!asked.functions) {
         asked.functions = &no_function;
         asked.function_count = 0;

@@ -154,12 +154,9 @@ struct FluentFile {
     size_t text_len FLUENT_ZERO;
 };
 
-/* What fluent_lint looks for, and what it reports. Begin with `struct FluentLintOptions options = FLUENT_LINT_OPTIONS;`, and
- * change what you want: then your program goes on as it is when a later header has more fields. The two pointers aren't null,
- * also if there are no functions or the locale is empty. */
+/* What fluent_lint looks for, and what it reports. The two pointers aren't null, also if there are no functions or the
+ * locale is empty. */
 struct FluentLintOptions {
-    /* The size of the struct in your header, by which the library knows the fields. */
-    size_t size FLUENT_ZERO;
     /* The names of the functions that your program adds. */
     const struct FluentSource *functions FLUENT_ZERO;
     size_t function_count FLUENT_ZERO;
@@ -172,19 +169,13 @@ struct FluentLintOptions {
     bool strict FLUENT_ZERO;
 };
 
-/* The options of which none was changed: no functions, whose address is never read, and no locale. */
-#define FLUENT_LINT_OPTIONS                                                                                                  \
-    { sizeof(struct FluentLintOptions), (const struct FluentSource *)sizeof(struct FluentSource), 0, (const uint8_t *)"", 0, \
-      false, false }
-
 /* Reports what is wrong with the files of a catalog, as the command `ftl lint --format json` does: a line of JSON for each
  * finding, and with `references`, the files that the catalog is translated from, a line of counts for each file.
  * docs/reference/lint.md has the rules, and the keys of the lines.
  *
  * It returns FLUENT_READ if the catalog has no error, and with `strict` no warning, and else FLUENT_HAS_ERRORS: in both
- * cases `report` is the report, which is empty if nothing was found. Else it returns FLUENT_BAD_ARGUMENT if the size of the
- * options isn't that of this header's struct, as fluent_bundle_new_with does, FLUENT_NOT_UTF8 if a name or a text isn't
- * UTF-8, FLUENT_UNKNOWN_LOCALE if the locale has no plural rules, or FLUENT_NO_MEMORY, and `report` is unchanged.
+ * cases `report` is the report, which is empty if nothing was found. Else it returns FLUENT_NOT_UTF8 if a name or a text
+ * isn't UTF-8, FLUENT_UNKNOWN_LOCALE if the locale has no plural rules, or FLUENT_NO_MEMORY, and `report` is unchanged.
  * `files` and `references` need pointers that aren't null, also if a count is 0.
  */
 uint32_t fluent_lint(

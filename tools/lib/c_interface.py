@@ -212,10 +212,8 @@ def layout_faults(text: str, library: Interface, header: Interface) -> Iterator[
         if f'SIZE({name}, ' not in text:
             yield f'{LAYOUT}: no size of {name}'
         yield from (f'{LAYOUT}: no place of {field} in {name}' for field, _ in fields if f'AT({name}, {field}, ' not in text)
-    for number, size in library.numbers.items():
-        name = ''.join(word.title() for word in number.removesuffix('_SIZE').split('_'))
-        if number.endswith('_SIZE') and f'SIZE({name}, {size})' not in text:
-            yield f'{LAYOUT}: another size of {name} than {number}'
+    if f'SIZE(FluentBundleOptions, {library.numbers["FLUENT_BUNDLE_OPTIONS_SIZE"]})' not in text:
+        yield f'{LAYOUT}: another size of FluentBundleOptions than FLUENT_BUNDLE_OPTIONS_SIZE'
 
 
 def differences(root: Path) -> Iterator[str]:

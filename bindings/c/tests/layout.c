@@ -34,14 +34,13 @@ AT(FluentFile, name_len, 8);
 AT(FluentFile, text, 16);
 AT(FluentFile, text_len, 24);
 
-SIZE(FluentLintOptions, 48);
-AT(FluentLintOptions, size, 0);
-AT(FluentLintOptions, functions, 8);
-AT(FluentLintOptions, function_count, 16);
-AT(FluentLintOptions, locale, 24);
-AT(FluentLintOptions, locale_len, 32);
-AT(FluentLintOptions, notes, 40);
-AT(FluentLintOptions, strict, 41);
+SIZE(FluentLintOptions, 40);
+AT(FluentLintOptions, functions, 0);
+AT(FluentLintOptions, function_count, 8);
+AT(FluentLintOptions, locale, 16);
+AT(FluentLintOptions, locale_len, 24);
+AT(FluentLintOptions, notes, 32);
+AT(FluentLintOptions, strict, 33);
 
 SIZE(FluentBundle, 32);
 AT(FluentBundle, held, 0);

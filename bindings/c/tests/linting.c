@@ -102,7 +102,7 @@ static size_t function_count_of(const struct FluentSource *functions) {
 
 static uint32_t lint(const struct Row *row, struct FluentText *report) {
     const struct FluentLintOptions options = {
-        sizeof options, row->functions, function_count_of(row->functions), row->locale.at, row->locale.len, row->notes, row->strict};
+        row->functions, function_count_of(row->functions), row->locale.at, row->locale.len, row->notes, row->strict};
     return fluent_lint(row->files, count_of(row->files), row->references, count_of(row->references), &options, report);
 }
 
@@ -127,26 +127,6 @@ static struct FluentFile deep_file(void) {
     return (struct FluentFile){(const uint8_t *)"a", 1, deep.at, deep.len};
 }
 
-/* The usual options, but for their size. */
-static uint32_t lint_by_size(size_t size, struct FluentText *report) {
-    static const struct FluentFile file = {(const uint8_t *)"a", 1, (const uint8_t *)"a = { b }\n", 10};
-    struct FluentLintOptions options = FLUENT_LINT_OPTIONS;
-    options.size = size;
-    return fluent_lint(&file, 1, &file, 0, &options, report);
-}
-
-/* Whether options of another size are refused, and what was there is as it was. */
-static bool is_refused(size_t size) {
-    struct FluentText report = {0};
-    if (lint_by_size(sizeof(struct FluentLintOptions), &report) != FLUENT_HAS_ERRORS)
-        return false;
-    const struct FluentText before = report;
-    bool is_status = lint_by_size(size, &report) == FLUENT_BAD_ARGUMENT;
-    bool is_before = report.held && report.bytes == before.bytes && report.len == before.len;
-    fluent_free_text(&report);
-    return is_status && is_before;
-}
-
 bool try_linting(void) {
     struct Tally tally = {"fluent_lint", 0, 0};
     const struct Row deep = {"a level more", {deep_file()}, NO_FILE, NO_FUNCTION, NONE, false, false, FLUENT_NO_MEMORY, {0}};
@@ -157,8 +137,5 @@ bool try_linting(void) {
         count_try(&tally, deep.name, is_right(held, &deep));
         count_try(&tally, deep_reference.name, is_right(held, &deep_reference));
     }
-    count_try(&tally, "no size", is_refused(0));
-    count_try(&tally, "a smaller size", is_refused(sizeof(struct FluentLintOptions) - 8));
-    count_try(&tally, "a larger size", is_refused(sizeof(struct FluentLintOptions) + 8));
     return print_tally(&tally);
 }

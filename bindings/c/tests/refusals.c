@@ -96,7 +96,7 @@ static uint32_t lint(struct Kept *kept) {
         {AT("a.ftl"), 5, AT("a = { b } { F() }\na = c\n"), 24}, {AT("b.ftl"), 5, AT("g@Rb@ge\n"), 8}};
     static const struct FluentFile references[] = {{AT("en.ftl"), 6, AT("a = { $x }\nd = e\n"), 17}};
     static const struct FluentSource functions[] = {BYTES("F")};
-    static const struct FluentLintOptions options = {sizeof options, functions, 1, TEXT("pl"), true, true};
+    static const struct FluentLintOptions options = {functions, 1, TEXT("pl"), true, true};
     uint32_t status = fluent_lint(files, 2, references, 1, &options, &kept->text);
     return status == FLUENT_HAS_ERRORS ? FLUENT_READ : status;
 }

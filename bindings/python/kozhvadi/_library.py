@@ -50,7 +50,6 @@ class FluentFile(ctypes.Structure):
 
 class FluentLintOptions(ctypes.Structure):
     _fields_ = [
-        ("size", ctypes.c_size_t),
         ("functions", ctypes.POINTER(FluentSource)),
         ("function_count", ctypes.c_size_t),
         ("locale", ctypes.c_char_p),

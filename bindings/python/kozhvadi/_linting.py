@@ -108,8 +108,7 @@ def lint(
         raise TypeError(f"functions is a list of names, and not one: {functions!r}")
     names, name_count = c.sources([encoded(name, "the function", name) for name in functions])
     tag = b"" if locale is None else encoded(locale, "the locale")
-    size = ctypes.sizeof(c.FluentLintOptions)
-    options = c.FluentLintOptions(size, names, name_count, tag, len(tag), bool(notes), bool(strict))
+    options = c.FluentLintOptions(names, name_count, tag, len(tag), bool(notes), bool(strict))
     given, compared = _files(files, "files"), _files(reference, "reference")
     text = c.FluentText()
     try:

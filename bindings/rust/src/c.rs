@@ -35,7 +35,6 @@ pub struct FluentFile {
 
 #[repr(C)]
 pub struct FluentLintOptions {
-    pub size: usize,
     pub functions: *const FluentSource,
     pub function_count: usize,
     pub locale: *const u8,
@@ -207,7 +206,7 @@ mod tests {
             FluentSource { text len }
             FluentPlace { line column }
             FluentFile { name name_len text text_len }
-            FluentLintOptions { size functions function_count locale locale_len notes strict }
+            FluentLintOptions { functions function_count locale locale_len notes strict }
             FluentBundle { held sources read desk }
             FluentBundleOptions { size locale locale_len stack isolating overriding plain_numbers }
             FluentArgument { name name_len text text_len integer unsigned_integer kind }

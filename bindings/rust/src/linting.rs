@@ -144,7 +144,6 @@ pub fn lint(
         options.functions.iter().map(|name| c::FluentSource { text: name.as_ptr(), len: name.len() }).collect();
     let locale = options.locale.unwrap_or_default();
     let asked = c::FluentLintOptions {
-        size: std::mem::size_of::<c::FluentLintOptions>(),
         functions: functions.as_ptr(),
         function_count: functions.len(),
         locale: locale.as_ptr(),

@@ -13,7 +13,7 @@ use Rattle.lint_findings.specs.Output.{json}
 use Rattle.fluent_c.specs.Answering.{AreUtf8, HoldsOther, plurals_named, texts_of}
 use Rattle.fluent_c.specs.Made.{Holds}
 use Rattle.fluent_c.specs.Statuses.{IsOneOf}
-use Rattle.fluent_c.specs.declared.TheConstants.{FLUENT_READ, FLUENT_NOT_UTF8, FLUENT_NO_MEMORY, FLUENT_UNKNOWN_LOCALE, FLUENT_BAD_ARGUMENT, FLUENT_HAS_ERRORS, FLUENT_LINT_OPTIONS_SIZE}
+use Rattle.fluent_c.specs.declared.TheConstants.{FLUENT_READ, FLUENT_NOT_UTF8, FLUENT_NO_MEMORY, FLUENT_UNKNOWN_LOCALE, FLUENT_HAS_ERRORS}
 use Rattle.fluent_c.specs.declared.files.FluentFile.{FluentFile}
 use Rattle.fluent_c.specs.declared.linting.FluentLintOptions.{FluentLintOptions}
 use Rattle.fluent_c.specs.declared.text.FluentText.{FluentText}
@@ -96,18 +96,9 @@ HasOtherFile options files references = HoldOther files references ⊎ HoldsOthe
 abbrev pub AreAllUtf8 : FluentLintOptions → List FluentFile → List FluentFile → Type 0
 AreAllUtf8 options files references = (AreUtf8Files files × AreUtf8Files references) × AreUtf8 options.functions.now
 
--- what is returned for files whose report is asked for by options of the right size
+-- what a call returns that reports on files
 pub record Lints (options : FluentLintOptions) (files references : List FluentFile) (status : ℕ) : Type 0 where
   pub decided : IsOneOf status (FLUENT_READ ∷ FLUENT_NOT_UTF8 ∷ FLUENT_NO_MEMORY ∷ FLUENT_UNKNOWN_LOCALE ∷ FLUENT_HAS_ERRORS ∷ [])
   pub not_utf8 : status ≡ FLUENT_NOT_UTF8 → HasOtherFile options files references
   pub utf8 : status ≢ FLUENT_NOT_UTF8 → AreAllUtf8 options files references
-  pub unknown_locale : status ≡ FLUENT_UNKNOWN_LOCALE → plurals_looked_for options.locale.now ≡ None
-
--- what a call returns that reports on files
-pub record LintsBy (options : FluentLintOptions) (files references : List FluentFile) (status : ℕ) : Type 0 where
-  pub decided : IsOneOf status (FLUENT_READ ∷ FLUENT_NOT_UTF8 ∷ FLUENT_NO_MEMORY ∷ FLUENT_UNKNOWN_LOCALE ∷ FLUENT_BAD_ARGUMENT ∷ FLUENT_HAS_ERRORS ∷ [])
-  pub bad_size : status ≡ FLUENT_BAD_ARGUMENT → options.size ≢ FLUENT_LINT_OPTIONS_SIZE
-  pub size : status ≢ FLUENT_BAD_ARGUMENT → options.size ≡ FLUENT_LINT_OPTIONS_SIZE
-  pub not_utf8 : status ≡ FLUENT_NOT_UTF8 → HasOtherFile options files references
-  pub utf8 : IsOneOf status (FLUENT_READ ∷ FLUENT_NO_MEMORY ∷ FLUENT_UNKNOWN_LOCALE ∷ FLUENT_HAS_ERRORS ∷ []) → AreAllUtf8 options files references
   pub unknown_locale : status ≡ FLUENT_UNKNOWN_LOCALE → plurals_looked_for options.locale.now ≡ None

@@ -74,7 +74,7 @@ pub const FLUENT_NO_MESSAGE: u32 = 4;
 /// What a call returns that asks for a value or an attribute that the message doesn't have.
 pub const FLUENT_NO_PATTERN: u32 = 5;
 /// What a call returns that has an argument whose kind isn't known, or whose decimal is no number, that names no strategy, or that
-/// has options of another size than [`FLUENT_BUNDLE_OPTIONS_SIZE`] or [`FLUENT_LINT_OPTIONS_SIZE`].
+/// has options of another size than [`FLUENT_BUNDLE_OPTIONS_SIZE`].
 pub const FLUENT_BAD_ARGUMENT: u32 = 6;
 /// What a call returns that asks a bundle that isn't there.
 pub const FLUENT_NO_BUNDLE: u32 = 7;
@@ -106,5 +106,3 @@ pub const FLUENT_MATCHING: u32 = 1;
 pub const FLUENT_LOOKUP: u32 = 2;
 /// The size of [`FluentBundleOptions`] in bytes.
 pub const FLUENT_BUNDLE_OPTIONS_SIZE: usize = 40;
-/// The size of [`FluentLintOptions`] in bytes.
-pub const FLUENT_LINT_OPTIONS_SIZE: usize = 48;

@@ -2,7 +2,7 @@
 
 ghost use Rattle.std.specs.Prelude.{◌≡◌, ◌≢◌, false, IfErr, IfOk, IsTrue, None, Some};
 ghost use Rattle.fluent_lint.specs.LintView.{output_view, report_view};
-ghost use Rattle.fluent_c.specs.Linting.{AreAllUtf8, HasOtherFile, HasReport, HoldOther, IsReport, IsReported, Lints, LintsBy, lint_status, output_asked, plurals_looked_for, report_by, report_in};
+ghost use Rattle.fluent_c.specs.Linting.{AreAllUtf8, HasOtherFile, HasReport, HoldOther, IsReport, IsReported, Lints, lint_status, output_asked, plurals_looked_for, report_by, report_in};
 ghost use Rattle.fluent_c.specs.declared.answering.Refusal.TheVariants.{NotUtf8, UnknownLocale};
 
 use crate::answering::{FluentSource, Refusal, are_utf8, checked_texts};
@@ -10,8 +10,7 @@ use crate::files::{FluentFile, are_files_utf8, checked_files};
 use crate::locales::names_posix;
 use crate::text::FluentText;
 use crate::{
-    FLUENT_BAD_ARGUMENT, FLUENT_HAS_ERRORS, FLUENT_LINT_OPTIONS_SIZE, FLUENT_NO_MEMORY,
-    FLUENT_NOT_UTF8, FLUENT_READ, FLUENT_UNKNOWN_LOCALE,
+    FLUENT_HAS_ERRORS, FLUENT_NO_MEMORY, FLUENT_NOT_UTF8, FLUENT_READ, FLUENT_UNKNOWN_LOCALE,
 };
 use fluent_lint::{Options, Output, Report, report_files};
 use fluent_plurals::LanguagePlurals;
@@ -21,17 +20,13 @@ use std::alloc::Global;
 
 /// What is looked for in a catalog, and what of it is reported.
 ///
-/// Fields that come later begin after these 48 bytes, so that `size` says which there are.
-///
 /// ```c
-/// struct FluentLintOptions strict = FLUENT_LINT_OPTIONS;
+/// struct FluentLintOptions strict = {0};
 /// strict.strict = true;
 /// ```
 #[repr(C)]
 #[derive(Clone, Copy)]
 pub struct FluentLintOptions<'o> {
-    /// The size of the struct, as the caller has it.
-    pub size: usize,
     /// The names of the functions that the program adds.
     pub functions: &'o [FluentSource<'o>],
     /// The tag of the locale whose plural categories are looked for, and none if it is empty.
@@ -183,30 +178,11 @@ fn status_of(has_failed: bool) -> u32
 /// The files of `references` are those that the catalog is translated from, if there are any. `docs/reference/lint.md` has the
 /// rules. The call returns [`FLUENT_READ`] if the catalog has no error, and with `strict` no warning, and otherwise
 /// [`FLUENT_HAS_ERRORS`]: in both cases `report` holds the lines, and what it held before is freed. It returns
-/// [`FLUENT_BAD_ARGUMENT`] if the size of the options isn't [`FLUENT_LINT_OPTIONS_SIZE`], [`FLUENT_NOT_UTF8`] if a
-/// name or a text isn't UTF-8, which is seen before anything is allocated, [`FLUENT_UNKNOWN_LOCALE`] if the locale has
-/// no plural rules, or [`FLUENT_NO_MEMORY`] otherwise, and `report` is unchanged then. All other memory is freed when
-/// it returns.
+/// [`FLUENT_NOT_UTF8`] if a name or a text isn't UTF-8, which is seen before anything is allocated, [`FLUENT_UNKNOWN_LOCALE`]
+/// if the locale has no plural rules, or [`FLUENT_NO_MEMORY`] otherwise, and `report` is unchanged then. All other memory is
+/// freed when it returns.
 #[unsafe(no_mangle)]
 pub extern "C" fn fluent_lint(
-    alloc: Global,
-    files: &[FluentFile<'_>],
-    references: &[FluentFile<'_>],
-    options: &FluentLintOptions<'_>,
-    report: &mut FluentText,
-) -> u32
-    ensures status { LintsBy options.now files.now references.now result }
-    ensures report { HasReport result → IsReport options.now files.now references.now result report.new }
-    ensures unchanged { ¬ HasReport result → report.new ≡ report.old }
-{
-    if options.size != FLUENT_LINT_OPTIONS_SIZE {
-        return FLUENT_BAD_ARGUMENT;
-    }
-    put_report(alloc, files, references, options, report)
-}
-
-/// Puts the report on files into `report`, and gives what the call returns.
-fn put_report(
     alloc: Global,
     files: &[FluentFile<'_>],
     references: &[FluentFile<'_>],

@@ -2,7 +2,7 @@ use Rattle.std.proofs.Common.{◌∙◌, rules, ap, subst, sym}
 use Rattle.fluent_c.specs.Linting.{Lints, lint_status, report_in}
 use Rattle.fluent_c.specs.Made.{Holds}
 use Rattle.fluent_c.proofs.Reports.{lints_told, some_weaker}
-use Rattle.fluent_c.proofs.linting.put_report.Goals as goal
+use Rattle.fluent_c.proofs.linting.fluent_lint.Goals as goal
 
 pub returns-in-Ok-clause-status : goal.returns-in-Ok-clause-status
 returns-in-Ok-clause-status c =
