@@ -362,9 +362,9 @@ module _ {F : Type 0} (folders : FolderGhosts F) (before after : F) (l : Lint) w
 
 module _ {F : Type 0} (folders : FolderGhosts F) (before after : F) (l : Lint) where
   lint_input_fault : (fault : Fault) → IsOfStreams fault → IsFaultOf folders before after (Some (lint_input l)) fault
-  lint_input_fault fault (inl is) = rw is (record { refused = λ bad. absurd cc; unknown = tt; unopened = λ of. absurd of; files = tt; right = tt })
-  lint_input_fault fault (inr (inl is)) = rw is (record { refused = λ bad. absurd cc; unknown = tt; unopened = λ of. absurd of; files = tt; right = tt })
-  lint_input_fault fault (inr (inr is)) = rw is (record { refused = λ bad. absurd cc; unknown = tt; unopened = λ of. absurd of; files = tt; right = tt })
+  lint_input_fault fault (inl is) = rw is (record { refused = λ bad. absurd bad; unknown = tt; unopened = λ of. absurd of; files = tt; right = tt })
+  lint_input_fault fault (inr (inl is)) = rw is (record { refused = λ bad. absurd bad; unknown = tt; unopened = λ of. absurd of; files = tt; right = tt })
+  lint_input_fault fault (inr (inr is)) = rw is (record { refused = λ bad. absurd bad; unknown = tt; unopened = λ of. absurd of; files = tt; right = tt })
 
   pub lint_input_memory : IsFaultOf folders before after (Some (lint_input l)) Memory
   lint_input_memory = lint_input_fault Memory (inl refl)
