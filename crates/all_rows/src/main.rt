@@ -1,10 +1,12 @@
-//! Tries the rows of all crates, and prints of each kind how many there were and how many were wrong.
+//! Tries the rows of all crates, and prints of each kind how many there were and how many were
+//! wrong.
 //!
 //!     all_rows             tries all of them
 //!     all_rows GROUP..     those of these groups
 //!
-//! The rows stand in `data`, in a folder for each group that has any. What tries them are libraries, one for each branch of the
-//! stack, so that they are proved side by side, and only this program is built.
+//! The rows stand in `data`, in a folder for each group that has any. What tries them are
+//! libraries, one for each branch of the stack, so that they are proved side by side, and only this
+//! program is built.
 #![tactic(auto)]
 
 use anyhow::{Result, bail};

@@ -12,10 +12,12 @@ use fluent_syntax::parser::{Error, parse};
 use fluent_value::{MemoizerKind, NoCustom, NoFunction};
 use std::alloc::Global;
 
-/// The tree of a source that may be damaged: what `clean` gives is read without errors, and has all of its messages and terms.
+/// The tree of a source that may be damaged: what `clean` gives is read without errors, and has all
+/// of its messages and terms.
 ///
 /// # Errors
-/// [`CarriageReturn`](CleanError::CarriageReturn) if the source holds one, [`Memory`](CleanError::Memory) if memory runs out.
+/// [`CarriageReturn`](CleanError::CarriageReturn) if the source holds one,
+/// [`Memory`](CleanError::Memory) if memory runs out.
 pub fn cleaned_tree(alloc: Global, source: &str) -> Result<Resource<String>, CleanError>
     ensures { IfOk result (λ read. listed (owned_entries_of read) ≡ list source.now) }
 {
@@ -30,7 +32,8 @@ pub fn cleaned_tree(alloc: Global, source: &str) -> Result<Resource<String>, Cle
 /// The answers from a cleaned source, which are those from the source itself.
 ///
 /// # Errors
-/// [`CarriageReturn`](CleanError::CarriageReturn) if the source holds one, [`Memory`](CleanError::Memory) if memory runs out.
+/// [`CarriageReturn`](CleanError::CarriageReturn) if the source holds one,
+/// [`Memory`](CleanError::Memory) if memory runs out.
 pub fn cleaned_answers<M: MemoizerKind>(
     alloc: Global,
     source: &str,

@@ -1,7 +1,8 @@
-//! Callers of the public libraries, with contracts of their own: each module has what a program may want to know of one library.
+//! Callers of the public libraries, with contracts of their own: each module has what a program may
+//! want to know of one library.
 //!
-//! The pages `CALLING.md` of the libraries quote them. [`localization`] is a whole program, of several languages, which the
-//! program `examples` runs with its own.
+//! The pages `CALLING.md` of the libraries quote them. [`localization`] is a whole program, of
+//! several languages, which the program `examples` runs with its own.
 #![tactic(auto)]
 
 pub mod bundle;

@@ -1,4 +1,5 @@
-//! Reads the texts of the user's languages from `l10n/LANGUAGE`, and shows each message in the first language that has it.
+//! Reads the texts of the user's languages from `l10n/LANGUAGE`, and shows each message in the
+//! first language that has it.
 
 use anyhow::{Context, Result};
 use fluent_bundle::localization::{LocalizedText, format_value};

@@ -11,7 +11,8 @@ use fluent_number::{
 use std::alloc::{AllocError, Global};
 use std::str::FromStr;
 
-/// What is shown for a number that a user wrote, if it is one: the same digits, without a plus and without zeros at the front.
+/// What is shown for a number that a user wrote, if it is one: the same digits, without a plus and
+/// without zeros at the front.
 ///
 /// # Errors
 /// [`AllocError`] if memory runs out; nothing is kept.

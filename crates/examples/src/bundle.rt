@@ -1,4 +1,5 @@
-//! Builds a bundle from a source, with a function and a type of values of the program's own, and prints some of its texts.
+//! Builds a bundle from a source, with a function and a type of values of the program's own, and
+//! prints some of its texts.
 
 mod catalog;
 mod day;
@@ -69,8 +70,8 @@ fn mail_args(alloc: Global, count: u32) -> Result<FluentArgs<'static, Day>> {
     Ok(args)
 }
 
-/// Prints the text of a message. Whatever is missing is written in braces, and the errors say why: see
-/// `docs/reference/errors.md`.
+/// Prints the text of a message. Whatever is missing is written in braces, and the errors say why:
+/// see `docs/reference/errors.md`.
 fn say<'r, 's: 'r>(
     rt: &HostRuntime,
     bundle: &Bundle<'r, 's>,

@@ -1,5 +1,5 @@
-//! Reads a Fluent source, gives one of its messages another text, and prints the source again: comments, terms and all that was
-//! not touched stand as before.
+//! Reads a Fluent source, gives one of its messages another text, and prints the source again:
+//! comments, terms and all that was not touched stand as before.
 
 use anyhow::{Result, bail};
 use fluent_syntax::ast::{Entry, Pattern, PatternElement, Resource};

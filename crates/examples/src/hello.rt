@@ -53,7 +53,8 @@ fn say_welcome<'r, 's: 'r>(rt: &HostRuntime, bundle: &LanguageBundle<'r, 's>) ->
     args.set("name", "John")?;
     let message = bundle.get_message("intro").context("no such message")?;
     let pattern = message.value().context("the message has no value")?;
-    // The marks U+2068 and U+2069 around the name keep its direction from changing that of the text.
+    // The marks U+2068 and U+2069 around the name keep its direction from changing that of the
+    // text.
     let mut errors = Vec::new(alloc);
     let text = bundle.format_pattern(pattern, Some(&args), &mut errors)?;
     println!(rt; "{text}")?; // Welcome, John.

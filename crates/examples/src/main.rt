@@ -1,5 +1,6 @@
-//! The programs that the README, the guide and the reference quote, one a module: each module is what the `main.rt` of such a
-//! program holds, and its `main` is called here. That of several languages is `localization` of `example_callers`.
+//! The programs that the README, the guide and the reference quote, one a module: each module is
+//! what the `main.rt` of such a program holds, and its `main` is called here. That of several
+//! languages is `localization` of `example_callers`.
 #![tactic(auto)]
 
 mod bundle;

@@ -1,6 +1,7 @@
 //! Copies of trees over any text type.
 //!
-//! The functions on patterns and expressions call each other, so they take the text type as a value under [`Texts`].
+//! The functions on patterns and expressions call each other, so they take the text type as a value
+//! under [`Texts`].
 
 ghost use Rattle.std.specs.Prelude.{◌≡◌, IfOk, map, option_map};
 ghost use Rattle.fluent_ast.specs.declared.InlineExpression.TheVariants.{StringLiteral, NumberLiteral, FunctionReference, MessageReference, TermReference, VariableReference};

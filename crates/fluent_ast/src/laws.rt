@@ -9,8 +9,8 @@ use crate::{
 };
 use fluent_text::Slice;
 
-/// `==` of nodes of each type is an equivalence, and two nodes are equal exactly if they are the same plain data. So a
-/// copy equals what it copies.
+/// `==` of nodes of each type is an equivalence, and two nodes are equal exactly if they are the
+/// same plain data. So a copy equals what it copies.
 pub fn equal_nodes<'s, S: Slice<'s>>()
     ensures resources { Compares ⟦<Resource<S> as PartialEq>⟧.eq (resource_view S S.text) }
     ensures entries { Compares ⟦<Entry<S> as PartialEq>⟧.eq (entry_view S S.text) }

@@ -1,8 +1,9 @@
 //! The tree of a Fluent source over a text type `S`.
 //!
-//! A reader makes it of slices of a source (`S` is `&str`) or of texts of its own (`S` is `String`). The names in
-//! backquotes after "production" are those of Fluent Syntax 1.0. Contracts speak of a tree through its plain tree, the
-//! data of the crate `fluent_grammar`: `specs/View.antt` says which plain tree a tree stands for.
+//! A reader makes it of slices of a source (`S` is `&str`) or of texts of its own (`S` is
+//! `String`). The names in backquotes after "production" are those of Fluent Syntax 1.0. Contracts
+//! speak of a tree through its plain tree, the data of the crate `fluent_grammar`:
+//! `specs/View.antt` says which plain tree a tree stands for.
 #![tactic(auto)]
 
 ghost use Rattle.std.specs.Prelude.{◌≡◌, ℕ, List};
@@ -117,7 +118,8 @@ pub struct Pattern<S> {
 #[cycle(tree)]
 #[derive(Debug, PartialEq, Eq, Drop)]
 pub enum PatternElement<S> {
-    /// A text without its common indent. It ends with its line's line feed if another element follows.
+    /// A text without its common indent. It ends with its line's line feed if another element
+    /// follows.
     TextElement { value: S },
     /// An expression in braces.
     Placeable { expression: Expression<S> },

@@ -1,4 +1,5 @@
-//! Laws of bundles and of what their patterns give: each function only carries a law, as its contract.
+//! Laws of bundles and of what their patterns give: each function only carries a law, as its
+//! contract.
 
 pub use fluent_ids::laws::attributes_agree;
 pub use fluent_meaning::laws::{

@@ -2,8 +2,9 @@
 
 //! Bundles: the messages of a program's resources, and all that is needed to ask for them.
 //!
-//! A [`FluentResource`] is a source that was read. A [`FluentBundle`] holds the messages and terms of resources and the
-//! functions of the program by their ids, with the plural source and the settings that patterns are resolved by.
+//! A [`FluentResource`] is a source that was read. A [`FluentBundle`] holds the messages and terms
+//! of resources and the functions of the program by their ids, with the plural source and the
+//! settings that patterns are resolved by.
 //!
 //! ```
 //! let resource = FluentResource::try_new(alloc, SOURCE)?;
@@ -20,10 +21,11 @@
 //! println!(rt; "{text}")?; // Hello, world!
 //! ```
 //!
-//! `crates/examples/src/hello.rt` is this program, whole, and `bundle.rt` next to it one with a function and a type of its own.
-//! A program with several languages has a bundle for each, and asks them in turn by [`localization`].
-//! Contracts speak of a bundle through what it holds, the record of `specs/Contents.antt`, and of patterns by the definitions
-//! of `fluent_meaning`. `docs/reference/bundles.md` has the rules in plain words.
+//! `crates/examples/src/hello.rt` is this program, whole, and `bundle.rt` next to it one with a
+//! function and a type of its own. A program with several languages has a bundle for each, and asks
+//! them in turn by [`localization`]. Contracts speak of a bundle through what it holds, the record
+//! of `specs/Contents.antt`, and of patterns by the definitions of `fluent_meaning`.
+//! `docs/reference/bundles.md` has the rules in plain words.
 
 pub mod builtins;
 pub mod bundle;

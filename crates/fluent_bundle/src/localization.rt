@@ -1,7 +1,8 @@
-//! Bundles of several languages, asked one after the other: a message that the first lacks comes from the next one that has it.
+//! Bundles of several languages, asked one after the other: a message that the first lacks comes
+//! from the next one that has it.
 //!
-//! The bundles are any slice of them, the one to ask first at its front. `negotiate_languages` of the crate `fluent_languages` says
-//! in which order a program makes them.
+//! The bundles are any slice of them, the one to ask first at its front. `negotiate_languages` of
+//! the crate `fluent_languages` says in which order a program makes them.
 
 ghost use Rattle.std.specs.Prelude.{◌≡◌, ◌<◌, IfSome, None, Some, length, option_map};
 ghost use Rattle.fluent_ast.specs.Borrowed.{elements_found};
@@ -46,7 +47,8 @@ pub struct FoundPattern<'r, 's> {
     pub position: usize,
 }
 
-/// The text of a message's value, by the first bundle whose message of this id has one. `None` if no bundle has one.
+/// The text of a message's value, by the first bundle whose message of this id has one. `None` if
+/// no bundle has one.
 ///
 /// The text and its errors, which are appended to the list, are those of that bundle's
 /// [`format_pattern`](FluentBundle::format_pattern). The bundles before it append nothing.
@@ -59,8 +61,8 @@ pub struct FoundPattern<'r, 's> {
 /// ```
 ///
 /// # Errors
-/// [`AllocError`] if memory runs out in `format_pattern`. The list then holds the old errors, and after them the first of the
-/// pattern's.
+/// [`AllocError`] if memory runs out in `format_pattern`. The list then holds the old errors, and
+/// after them the first of the pattern's.
 pub fn format_value<'r, 's, M, C, F, G, T>(
     bundles: &[FluentBundle<'r, 's, M, C, F, G, T>],
     id: &str,
@@ -78,8 +80,8 @@ where
     format_first(bundles, id, None, args, errors)
 }
 
-/// The text of a message's attribute of this name, by the first bundle whose message of this id has one. `None` if no bundle has
-/// one.
+/// The text of a message's attribute of this name, by the first bundle whose message of this id has
+/// one. `None` if no bundle has one.
 ///
 /// If the message has several of the name, the first counts. The rest is as for [`format_value`].
 ///
@@ -103,8 +105,8 @@ where
     format_first(bundles, id, Some(name), args, errors)
 }
 
-/// The pattern of a message's value, of the first bundle whose message of this id has one. `None` if no bundle has one. It doesn't
-/// allocate.
+/// The pattern of a message's value, of the first bundle whose message of this id has one. `None`
+/// if no bundle has one. It doesn't allocate.
 pub fn find_value<'r, 's, M, C, F, G, T>(
     bundles: &[FluentBundle<'r, 's, M, C, F, G, T>],
     id: &str,
@@ -120,8 +122,8 @@ where
     find_first(bundles, id, None)
 }
 
-/// The pattern of a message's attribute of this name, of the first bundle whose message of this id has one. `None` if no bundle has
-/// one. It doesn't allocate.
+/// The pattern of a message's attribute of this name, of the first bundle whose message of this id
+/// has one. `None` if no bundle has one. It doesn't allocate.
 pub fn find_attribute<'r, 's, M, C, F, G, T>(
     bundles: &[FluentBundle<'r, 's, M, C, F, G, T>],
     id: &str,
@@ -163,7 +165,8 @@ where
     Ok(None)
 }
 
-/// The pattern that the first bundle has for the value of a message, or for its attribute of a name.
+/// The pattern that the first bundle has for the value of a message, or for its attribute of a
+/// name.
 fn find_first<'r, 's, M, C, F, G, T>(
     bundles: &[FluentBundle<'r, 's, M, C, F, G, T>],
     id: &str,

@@ -107,7 +107,8 @@ fn read_source<'s>(source: &FluentSource<'s>, read: &mut Vec<&'s str>) -> Result
     }
 }
 
-/// The plural rules that the tag of a locale names: those of English for the empty tag, and none but `other` for `C` and `POSIX`.
+/// The plural rules that the tag of a locale names: those of English for the empty tag, and none
+/// but `other` for `C` and `POSIX`.
 pub(crate) fn plurals_of(locale: &[u8]) -> Option<LanguagePlurals>
     ensures { result ≡ plurals_in locale.now }
 {
@@ -174,16 +175,19 @@ fn answer(
 
 /// Answers request lines from the messages and terms of sources, as the command `ftl run` does.
 ///
-/// The function `NUMBER` is there. Variants are chosen by the plural rules of the locale, a tag such as `pl` or `pt-PT`, and numbers
-/// are written as it writes them. The empty locale has the rules of English, and plain numbers. Placeables are between marks if
-/// `isolating` is true. Of duplicate ids the last entry counts if `overriding` is true, and otherwise the first.
-/// `docs/reference/protocol.md` says what a request line and its answer are, `docs/reference/plurals.md` which locales have plural
-/// rules, and `docs/reference/numerals.md` how numbers are written.
+/// The function `NUMBER` is there. Variants are chosen by the plural rules of the locale, a tag
+/// such as `pl` or `pt-PT`, and numbers are written as it writes them. The empty locale has the
+/// rules of English, and plain numbers. Placeables are between marks if `isolating` is true. Of
+/// duplicate ids the last entry counts if `overriding` is true, and otherwise the first.
+/// `docs/reference/protocol.md` says what a request line and its answer are,
+/// `docs/reference/plurals.md` which locales have plural rules, and `docs/reference/numerals.md`
+/// how numbers are written.
 ///
-/// The call returns [`FLUENT_READ`], also if a source has errors or a request is bad: then `made` holds the answers, and
-/// what it held before is freed. It returns [`FLUENT_NOT_UTF8`] if a source isn't UTF-8, which is seen before
-/// anything is allocated, [`FLUENT_UNKNOWN_LOCALE`] if the locale has no plural rules, or [`FLUENT_NO_MEMORY`]
-/// otherwise, and `made` is unchanged then. All other memory is freed when it returns.
+/// The call returns [`FLUENT_READ`], also if a source has errors or a request is bad: then `made`
+/// holds the answers, and what it held before is freed. It returns [`FLUENT_NOT_UTF8`] if a source
+/// isn't UTF-8, which is seen before anything is allocated, [`FLUENT_UNKNOWN_LOCALE`] if the locale
+/// has no plural rules, or [`FLUENT_NO_MEMORY`] otherwise, and `made` is unchanged then. All other
+/// memory is freed when it returns.
 #[unsafe(no_mangle)]
 pub extern "C" fn fluent_answer(
     alloc: Global,

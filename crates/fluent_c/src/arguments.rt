@@ -28,7 +28,8 @@ pub struct FluentArgument<'a> {
     pub text: &'a [u8],
     pub integer: i64,
     pub unsigned: u64,
-    /// [`FLUENT_TEXT`], [`FLUENT_DECIMAL`], [`FLUENT_INTEGER`], [`FLUENT_UNSIGNED`] or [`FLUENT_NO_VALUE`].
+    /// [`FLUENT_TEXT`], [`FLUENT_DECIMAL`], [`FLUENT_INTEGER`], [`FLUENT_UNSIGNED`] or
+    /// [`FLUENT_NO_VALUE`].
     pub kind: u32,
 }
 
@@ -87,8 +88,9 @@ fn number_of<'a>(text: &'a str) -> Option<FluentValue<'a, NoCustom>>
 /// Sets an argument.
 ///
 /// # Errors
-/// [`ArgumentRefusal::NotUtf8`] if its name or its text isn't UTF-8, [`ArgumentRefusal::NoValue`] if it has no value, and
-/// [`ArgumentRefusal::Memory`] if memory runs out; the arguments are unchanged.
+/// [`ArgumentRefusal::NotUtf8`] if its name or its text isn't UTF-8, [`ArgumentRefusal::NoValue`]
+/// if it has no value, and [`ArgumentRefusal::Memory`] if memory runs out; the arguments are
+/// unchanged.
 fn set<'a>(
     arguments: &mut FluentArgs<'a, NoCustom>,
     argument: &FluentArgument<'a>,
@@ -152,7 +154,8 @@ fn in_order<'a>(
     Ok(sorted)
 }
 
-/// More arguments than these are set in the order of their names: then none has to make room for another.
+/// More arguments than these are set in the order of their names: then none has to make room for
+/// another.
 const FEW: usize = 16;
 
 /// The arguments by their names. Of arguments with one name the last counts.

@@ -1,4 +1,5 @@
-//! Bundles that a caller which isn't Rattle keeps from call to call: how they are made, asked and freed.
+//! Bundles that a caller which isn't Rattle keeps from call to call: how they are made, asked and
+//! freed.
 
 ghost use Rattle.std.specs.Prelude.{◌≡◌, ◌≢◌, ◌∷◌, [], true, IfErr, IfOk, None, map, option_copied, option_map, string_bytes, vec_items};
 ghost use Rattle.fluent_serve.specs.Texts.{texts};
@@ -64,12 +65,13 @@ pub(crate) struct Asking {
     pub(crate) stack: StackBudget,
 }
 
-/// A bundle of copies of sources, which reads and answers within a budget of the machine's stack. Numbers are written as the locale
-/// of the tag `numerals` writes them, and plainly without one. Messages may call functions of these names, if there are any.
+/// A bundle of copies of sources, which reads and answers within a budget of the machine's stack.
+/// Numbers are written as the locale of the tag `numerals` writes them, and plainly without one.
+/// Messages may call functions of these names, if there are any.
 ///
 /// # Errors
-/// [`Refusal::UnknownLocale`] if the locale has no plural rules, [`Refusal::NotUtf8`] if a source isn't UTF-8, and
-/// [`Refusal::Memory`] if memory or the budget runs out; nothing is kept.
+/// [`Refusal::UnknownLocale`] if the locale has no plural rules, [`Refusal::NotUtf8`] if a source
+/// isn't UTF-8, and [`Refusal::Memory`] if memory or the budget runs out; nothing is kept.
 fn kept(
     alloc: Global,
     sources: &[FluentSource<'_>],
@@ -130,12 +132,15 @@ pub(crate) fn keep(
     }
 }
 
-/// Reads sources, and keeps a bundle of them, which answers as [`fluent_answer`](crate::fluent_answer) does.
+/// Reads sources, and keeps a bundle of them, which answers as
+/// [`fluent_answer`](crate::fluent_answer) does.
 ///
-/// The sources are copied. The settings and the locale are those of [`fluent_answer`](crate::fluent_answer). The call returns
-/// [`FLUENT_READ`], also if a source has errors: then `made` keeps the bundle, and what it kept before is freed. It returns
-/// [`FLUENT_NOT_UTF8`] if a source isn't UTF-8, which is seen before anything is allocated, [`FLUENT_UNKNOWN_LOCALE`] if the
-/// locale has no plural rules, or [`FLUENT_NO_MEMORY`] otherwise, and `made` is unchanged then.
+/// The sources are copied. The settings and the locale are those of
+/// [`fluent_answer`](crate::fluent_answer). The call returns [`FLUENT_READ`], also if a source has
+/// errors: then `made` keeps the bundle, and what it kept before is freed. It returns
+/// [`FLUENT_NOT_UTF8`] if a source isn't UTF-8, which is seen before anything is allocated,
+/// [`FLUENT_UNKNOWN_LOCALE`] if the locale has no plural rules, or [`FLUENT_NO_MEMORY`] otherwise,
+/// and `made` is unchanged then.
 ///
 /// It is [`fluent_bundle_new_within`] the budget of a thread, [`StackBudget::THREAD`].
 #[unsafe(no_mangle)]
@@ -156,8 +161,8 @@ pub extern "C" fn fluent_bundle_new(
     fluent_bundle_new_within(alloc, sources, locale, isolating, overriding, stack, made)
 }
 
-/// As [`fluent_bundle_new`], with a budget of `stack` bytes of the machine's stack in the place of 1.5 MB: for a message or a
-/// term that is read, and for an answer of the bundle.
+/// As [`fluent_bundle_new`], with a budget of `stack` bytes of the machine's stack in the place of
+/// 1.5 MB: for a message or a term that is read, and for an answer of the bundle.
 ///
 /// The call returns [`FLUENT_NO_MEMORY`], too, if a message or a term nests too deep for that.
 #[unsafe(no_mangle)]
@@ -207,11 +212,13 @@ pub extern "C" fn fluent_bundle_new_plain(
     keep(alloc, sources, locale, None, None, asking, made)
 }
 
-/// Whether a bundle has what is asked for: a message's value, or its first attribute of a name, and the value for the empty name.
+/// Whether a bundle has what is asked for: a message's value, or its first attribute of a name, and
+/// the value for the empty name.
 ///
-/// The call returns [`FLUENT_READ`] if it has, [`FLUENT_NO_MESSAGE`] if there is no message of the id, [`FLUENT_NO_PATTERN`] if the
-/// message lacks the value or the attribute, [`FLUENT_NOT_UTF8`] if the id or the name isn't UTF-8, and [`FLUENT_NO_BUNDLE`] if there
-/// is no bundle. It doesn't allocate.
+/// The call returns [`FLUENT_READ`] if it has, [`FLUENT_NO_MESSAGE`] if there is no message of the
+/// id, [`FLUENT_NO_PATTERN`] if the message lacks the value or the attribute, [`FLUENT_NOT_UTF8`]
+/// if the id or the name isn't UTF-8, and [`FLUENT_NO_BUNDLE`] if there is no bundle. It doesn't
+/// allocate.
 #[unsafe(no_mangle)]
 pub extern "C" fn fluent_bundle_has<'a>(
     alloc: Global,
@@ -240,11 +247,12 @@ pub extern "C" fn fluent_bundle_has<'a>(
     }
 }
 
-/// Reports what a check of a bundle's sources finds, as the command `ftl check` does: a line for each error and for each
-/// message or term whose id was there before it, or the empty text.
+/// Reports what a check of a bundle's sources finds, as the command `ftl check` does: a line for
+/// each error and for each message or term whose id was there before it, or the empty text.
 ///
-/// The call returns [`FLUENT_READ`], [`FLUENT_NO_BUNDLE`] if there is no bundle, or [`FLUENT_NO_MEMORY`]. If it isn't
-/// [`FLUENT_READ`], `report` holds what it held, at the same address.
+/// The call returns [`FLUENT_READ`], [`FLUENT_NO_BUNDLE`] if there is no bundle, or
+/// [`FLUENT_NO_MEMORY`]. If it isn't [`FLUENT_READ`], `report` holds what it held, at the same
+/// address.
 #[unsafe(no_mangle)]
 pub extern "C" fn fluent_bundle_errors(
     alloc: Global,

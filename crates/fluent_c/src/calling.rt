@@ -34,11 +34,11 @@ fn copied_names(alloc: Global, functions: &[FluentSource<'_>]) -> Result<Vec<Str
     Ok(copied(alloc, &borrowed)?)
 }
 
-/// As [`fluent_bundle_new_with`](crate::fluent_bundle_new_with), for messages that call functions of these names: they are
-/// formatted by [`fluent_bundle_call`].
+/// As [`fluent_bundle_new_with`](crate::fluent_bundle_new_with), for messages that call functions
+/// of these names: they are formatted by [`fluent_bundle_call`].
 ///
-/// A name that is the id of a message or a term of the sources, or `NUMBER`, is no function. The names are copied. The call returns
-/// [`FLUENT_NOT_UTF8`], too, if a name isn't UTF-8.
+/// A name that is the id of a message or a term of the sources, or `NUMBER`, is no function. The
+/// names are copied. The call returns [`FLUENT_NOT_UTF8`], too, if a name isn't UTF-8.
 #[unsafe(no_mangle)]
 pub extern "C" fn fluent_bundle_new_calling(
     alloc: Global,
@@ -64,15 +64,17 @@ pub extern "C" fn fluent_bundle_new_calling(
     }
 }
 
-/// Formats a message of a bundle whose messages call functions, with these arguments and these answers to calls.
+/// Formats a message of a bundle whose messages call functions, with these arguments and these
+/// answers to calls.
 ///
-/// An answer is an argument whose name is the text of its call. As long as the message meets a call that has no answer, the call
-/// returns [`FLUENT_CALL`], and `call` holds the text of the first of them: answer it, and call again with that answer too. Then
-/// `text` and `errors` hold what they held. Of answers to one call the last counts, and answers to calls that aren't met do nothing.
+/// An answer is an argument whose name is the text of its call. As long as the message meets a call
+/// that has no answer, the call returns [`FLUENT_CALL`], and `call` holds the text of the first of
+/// them: answer it, and call again with that answer too. Then `text` and `errors` hold what they
+/// held. Of answers to one call the last counts, and answers to calls that aren't met do nothing.
 ///
-/// Otherwise it returns what [`fluent_bundle_format`](crate::fluent_bundle_format) does, and `call` holds what it held; it is
-/// [`FLUENT_NOT_UTF8`] or [`FLUENT_BAD_ARGUMENT`], too, for an answer that isn't taken. Of a bundle without functions it is the same
-/// call, whatever the answers are.
+/// Otherwise it returns what [`fluent_bundle_format`](crate::fluent_bundle_format) does, and `call`
+/// holds what it held; it is [`FLUENT_NOT_UTF8`] or [`FLUENT_BAD_ARGUMENT`], too, for an answer
+/// that isn't taken. Of a bundle without functions it is the same call, whatever the answers are.
 #[unsafe(no_mangle)]
 pub extern "C" fn fluent_bundle_call<'a>(
     alloc: Global,

@@ -61,8 +61,9 @@ impl FluentCounts {
 
 /// Counts the entries and the errors of a source, comments included.
 ///
-/// `text` is the source's bytes. The call returns [`FLUENT_READ`], also if the source has errors; [`FLUENT_NOT_UTF8`] or
-/// [`FLUENT_NO_MEMORY`] otherwise, and `counts` is unchanged then. All memory is freed when it returns.
+/// `text` is the source's bytes. The call returns [`FLUENT_READ`], also if the source has errors;
+/// [`FLUENT_NOT_UTF8`] or [`FLUENT_NO_MEMORY`] otherwise, and `counts` is unchanged then. All
+/// memory is freed when it returns.
 #[unsafe(no_mangle)]
 pub extern "C" fn fluent_parse(alloc: Global, text: &[u8], counts: &mut FluentCounts) -> u32
     ensures status { ReadsSource text.now result }
@@ -82,8 +83,8 @@ pub extern "C" fn fluent_parse(alloc: Global, text: &[u8], counts: &mut FluentCo
     }
 }
 
-/// Counts the messages, the terms, the junk and the errors of a source that is read for use at run time, without its
-/// comments. The call returns what [`fluent_parse`] does.
+/// Counts the messages, the terms, the junk and the errors of a source that is read for use at run
+/// time, without its comments. The call returns what [`fluent_parse`] does.
 #[unsafe(no_mangle)]
 pub extern "C" fn fluent_parse_runtime(alloc: Global, text: &[u8], counts: &mut FluentCounts) -> u32
     ensures status { ReadsSource text.now result }

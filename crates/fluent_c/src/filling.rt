@@ -8,7 +8,8 @@ use crate::text::FluentText;
 use fluent_kept::RawBox;
 use std::alloc::{AllocError, Global};
 
-/// The text of this many bytes, after which the last is the byte 0, in a box that held others, whose memory is spare then.
+/// The text of this many bytes, after which the last is the byte 0, in a box that held others,
+/// whose memory is spare then.
 fn refilled(owner: RawBox<Buffers, Global>, bytes: Vec<u8>, len: usize) -> FluentText
     requires { vec_len bytes ≡ suc len }
     ensures { HoldsBytes result (vec_items bytes) }
@@ -51,8 +52,8 @@ pub(crate) fn take_spare(text: &mut FluentText, alloc: Global) -> String
     }
 }
 
-/// Puts the text of these bytes in the place of a text, whose memory is spare then. If there is one, it allocates nothing for
-/// it but the room of a byte 0 after the bytes.
+/// Puts the text of these bytes in the place of a text, whose memory is spare then. If there is
+/// one, it allocates nothing for it but the room of a byte 0 after the bytes.
 ///
 /// # Errors
 /// [`AllocError`] if memory runs out; the text is as it was.

@@ -60,17 +60,19 @@ pub(crate) fn hand_out(
     }
 }
 
-/// Formats a message of a bundle with these arguments: its value if `attribute` is empty, and otherwise its first
-/// attribute of that name.
+/// Formats a message of a bundle with these arguments: its value if `attribute` is empty, and
+/// otherwise its first attribute of that name.
 ///
-/// The call returns [`FLUENT_READ`] also if there are errors: then `text` holds the text and `errors` a line for each error, or no
-/// text if there are none, and what `errors` held before is freed. The memory of what `text` held is kept with the new text, and
-/// the next answer is written into it: an answer allocates nothing for its text if that suffices.
+/// The call returns [`FLUENT_READ`] also if there are errors: then `text` holds the text and
+/// `errors` a line for each error, or no text if there are none, and what `errors` held before is
+/// freed. The memory of what `text` held is kept with the new text, and the next answer is written
+/// into it: an answer allocates nothing for its text if that suffices.
 ///
-/// It returns [`FLUENT_NOT_UTF8`] if the id, a name or a text isn't UTF-8, [`FLUENT_BAD_ARGUMENT`] if an argument's kind isn't known
-/// or its decimal is no number, [`FLUENT_NO_MESSAGE`] if there is no message of the id, [`FLUENT_NO_PATTERN`] if the message lacks the
-/// value or the attribute, [`FLUENT_NO_BUNDLE`] if there is no bundle, and [`FLUENT_NO_MEMORY`] otherwise: then both texts hold what
-/// they held, at the same address. The bundle is as it was in each case.
+/// It returns [`FLUENT_NOT_UTF8`] if the id, a name or a text isn't UTF-8, [`FLUENT_BAD_ARGUMENT`]
+/// if an argument's kind isn't known or its decimal is no number, [`FLUENT_NO_MESSAGE`] if there is
+/// no message of the id, [`FLUENT_NO_PATTERN`] if the message lacks the value or the attribute,
+/// [`FLUENT_NO_BUNDLE`] if there is no bundle, and [`FLUENT_NO_MEMORY`] otherwise: then both texts
+/// hold what they held, at the same address. The bundle is as it was in each case.
 #[unsafe(no_mangle)]
 pub extern "C" fn fluent_bundle_format<'a>(
     alloc: Global,

@@ -16,12 +16,14 @@ use crate::{
 use fluent_languages::{NegotiationStrategy, negotiate_bytes};
 use std::alloc::{AllocError, Global};
 
-/// Finds the languages of a program that are used for those that a user asks for, by the strategy of this number.
+/// Finds the languages of a program that are used for those that a user asks for, by the strategy
+/// of this number.
 ///
-/// What is no tag is passed over. The call returns [`FLUENT_READ`], and puts the positions of these languages in `available`
-/// into `positions`, the best first, as many as it has room for, and into `count` how many there are. It returns
-/// [`FLUENT_BAD_ARGUMENT`] if there is no such strategy, or [`FLUENT_NO_MEMORY`], and both are unchanged then. All memory is freed
-/// when it returns. `docs/reference/languages.md` has the rules.
+/// What is no tag is passed over. The call returns [`FLUENT_READ`], and puts the positions of these
+/// languages in `available` into `positions`, the best first, as many as it has room for, and into
+/// `count` how many there are. It returns [`FLUENT_BAD_ARGUMENT`] if there is no such strategy, or
+/// [`FLUENT_NO_MEMORY`], and both are unchanged then. All memory is freed when it returns.
+/// `docs/reference/languages.md` has the rules.
 #[unsafe(no_mangle)]
 pub extern "C" fn fluent_negotiate(
     alloc: Global,

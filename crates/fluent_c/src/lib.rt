@@ -1,13 +1,16 @@
-//! Fluent for programs in C and Rust: the texts of messages, from a bundle that is kept ([`fluent_bundle_new`]) or from sources, line
-//! by line ([`fluent_answer`]); which of a program's languages suit a user ([`fluent_negotiate`]); what a source has, in
-//! numbers and by names; and its tree as text, written back or as JSON.
+//! Fluent for programs in C and Rust: the texts of messages, from a bundle that is kept
+//! ([`fluent_bundle_new`]) or from sources, line by line ([`fluent_answer`]); which of a program's
+//! languages suit a user ([`fluent_negotiate`]); what a source has, in numbers and by names; and
+//! its tree as text, written back or as JSON.
 //!
-//! No call takes much of the machine's stack: a source or an answer that nests too deep for 1.5 MB is refused as out of memory, so
-//! a thread with a stack of 2 MB can make each call. A bundle made by [`fluent_bundle_new_within`] has another budget.
+//! No call takes much of the machine's stack: a source or an answer that nests too deep for 1.5 MB
+//! is refused as out of memory, so a thread with a stack of 2 MB can make each call. A bundle made
+//! by [`fluent_bundle_new_within`] has another budget.
 //!
-//! A text that is returned is in memory of the library, which the caller frees by [`fluent_free_text`]; a bundle is freed by
-//! [`fluent_bundle_free`]. A program that calls the library links C's `malloc`, `realloc` and `free`, as `bindings/c/run.sh` does.
-//! `fluent_c.h`, next to this crate's folder `src`, declares the calls for C.
+//! A text that is returned is in memory of the library, which the caller frees by
+//! [`fluent_free_text`]; a bundle is freed by [`fluent_bundle_free`]. A program that calls the
+//! library links C's `malloc`, `realloc` and `free`, as `bindings/c/run.sh` does. `fluent_c.h`,
+//! next to this crate's folder `src`, declares the calls for C.
 #![tactic(auto)]
 
 mod answering;
@@ -59,13 +62,15 @@ pub use variables::fluent_bundle_variables;
 pub use version::fluent_version;
 pub use writing::{fluent_write, fluent_write_json};
 
-/// The version of the library: a million for the first number, a thousand for the second, and one for the third.
+/// The version of the library: a million for the first number, a thousand for the second, and one
+/// for the third.
 pub const FLUENT_VERSION: u32 = 1000;
 /// What a call returns that did what it is for. A source that was read may still have errors.
 pub const FLUENT_READ: u32 = 0;
 /// What a call returns that was given a text that isn't UTF-8.
 pub const FLUENT_NOT_UTF8: u32 = 1;
-/// What a call returns that was refused memory, or was asked for what nests too deep for its budget of the machine's stack.
+/// What a call returns that was refused memory, or was asked for what nests too deep for its budget
+/// of the machine's stack.
 pub const FLUENT_NO_MEMORY: u32 = 2;
 /// What a call returns whose locale has no plural rules.
 pub const FLUENT_UNKNOWN_LOCALE: u32 = 3;
@@ -73,12 +78,13 @@ pub const FLUENT_UNKNOWN_LOCALE: u32 = 3;
 pub const FLUENT_NO_MESSAGE: u32 = 4;
 /// What a call returns that asks for a value or an attribute that the message doesn't have.
 pub const FLUENT_NO_PATTERN: u32 = 5;
-/// What a call returns that has an argument whose kind isn't known, or whose decimal is no number, that names no strategy, or that
-/// has options of another size than [`FLUENT_BUNDLE_OPTIONS_SIZE`].
+/// What a call returns that has an argument whose kind isn't known, or whose decimal is no number,
+/// that names no strategy, or that has options of another size than [`FLUENT_BUNDLE_OPTIONS_SIZE`].
 pub const FLUENT_BAD_ARGUMENT: u32 = 6;
 /// What a call returns that asks a bundle that isn't there.
 pub const FLUENT_NO_BUNDLE: u32 = 7;
-/// What [`fluent_lint`] returns if its report has an error, or if warnings count and it has one: the report is there.
+/// What [`fluent_lint`] returns if its report has an error, or if warnings count and it has one:
+/// the report is there.
 pub const FLUENT_HAS_ERRORS: u32 = 8;
 /// What a call returns that is given a source with a stretch that can't be read.
 pub const FLUENT_DAMAGED: u32 = 9;
@@ -86,7 +92,8 @@ pub const FLUENT_DAMAGED: u32 = 9;
 pub const FLUENT_CARRIAGE_RETURN: u32 = 10;
 /// What a call returns whose source has no tidy text.
 pub const FLUENT_NOT_TIDY: u32 = 11;
-/// What a call returns that met a call of a function which has no answer yet: the text of that call is there.
+/// What a call returns that met a call of a function which has no answer yet: the text of that call
+/// is there.
 pub const FLUENT_CALL: u32 = 12;
 /// The kind of an argument that is a text.
 pub const FLUENT_TEXT: u32 = 0;
@@ -96,7 +103,8 @@ pub const FLUENT_DECIMAL: u32 = 1;
 pub const FLUENT_INTEGER: u32 = 2;
 /// The kind of an argument that is an unsigned integer.
 pub const FLUENT_UNSIGNED: u32 = 3;
-/// The kind of an argument that has no value, as a variable that is missing; of an answer to a call, that there is none.
+/// The kind of an argument that has no value, as a variable that is missing; of an answer to a
+/// call, that there is none.
 pub const FLUENT_NO_VALUE: u32 = 4;
 /// The strategy that finds all languages that suit any of the user's.
 pub const FLUENT_FILTERING: u32 = 0;

@@ -93,8 +93,8 @@ fn output_of(options: &FluentLintOptions<'_>) -> Output<'static>
 /// The report on files, by what is known of the program and of the language.
 ///
 /// # Errors
-/// [`Refusal::NotUtf8`] if a name or a text isn't UTF-8, and [`Refusal::Memory`] if memory runs out, or a file nests too
-/// deep; nothing is kept.
+/// [`Refusal::NotUtf8`] if a name or a text isn't UTF-8, and [`Refusal::Memory`] if memory runs
+/// out, or a file nests too deep; nothing is kept.
 fn report_by(
     alloc: Global,
     options: &Options<'_>,
@@ -117,8 +117,9 @@ fn report_by(
 /// The report on files.
 ///
 /// # Errors
-/// [`Refusal::UnknownLocale`] if the locale has no plural rules, [`Refusal::NotUtf8`] if a name or a text isn't UTF-8, and
-/// [`Refusal::Memory`] if memory runs out, or a file nests too deep; nothing is kept.
+/// [`Refusal::UnknownLocale`] if the locale has no plural rules, [`Refusal::NotUtf8`] if a name or
+/// a text isn't UTF-8, and [`Refusal::Memory`] if memory runs out, or a file nests too deep;
+/// nothing is kept.
 fn report_on(
     alloc: Global,
     options: &FluentLintOptions<'_>,
@@ -173,14 +174,16 @@ fn status_of(has_failed: bool) -> u32
     }
 }
 
-/// Reports what is found in a catalog of files, as the command `ftl lint --format json` does: a line of JSON for each finding.
+/// Reports what is found in a catalog of files, as the command `ftl lint --format json` does: a
+/// line of JSON for each finding.
 ///
-/// The files of `references` are those that the catalog is translated from, if there are any. `docs/reference/lint.md` has the
-/// rules. The call returns [`FLUENT_READ`] if the catalog has no error, and with `strict` no warning, and otherwise
-/// [`FLUENT_HAS_ERRORS`]: in both cases `report` holds the lines, and what it held before is freed. It returns
-/// [`FLUENT_NOT_UTF8`] if a name or a text isn't UTF-8, which is seen before anything is allocated, [`FLUENT_UNKNOWN_LOCALE`]
-/// if the locale has no plural rules, or [`FLUENT_NO_MEMORY`] otherwise, and `report` is unchanged then. All other memory is
-/// freed when it returns.
+/// The files of `references` are those that the catalog is translated from, if there are any.
+/// `docs/reference/lint.md` has the rules. The call returns [`FLUENT_READ`] if the catalog has no
+/// error, and with `strict` no warning, and otherwise [`FLUENT_HAS_ERRORS`]: in both cases `report`
+/// holds the lines, and what it held before is freed. It returns [`FLUENT_NOT_UTF8`] if a name or a
+/// text isn't UTF-8, which is seen before anything is allocated, [`FLUENT_UNKNOWN_LOCALE`] if the
+/// locale has no plural rules, or [`FLUENT_NO_MEMORY`] otherwise, and `report` is unchanged then.
+/// All other memory is freed when it returns.
 #[unsafe(no_mangle)]
 pub extern "C" fn fluent_lint(
     alloc: Global,

@@ -16,11 +16,13 @@ use std::str::from_utf8;
 
 /// Lists the messages of a bundle: `text` then holds their ids, each ended by a line feed.
 ///
-/// They are in the order of the first entries of the ids in the sources, and each is there once. An id is there if what counts of
-/// it is a message: not if it is a term or the function `NUMBER`. An empty text says that there is no message.
+/// They are in the order of the first entries of the ids in the sources, and each is there once. An
+/// id is there if what counts of it is a message: not if it is a term or the function `NUMBER`. An
+/// empty text says that there is no message.
 ///
-/// The call returns [`FLUENT_READ`], [`FLUENT_NO_BUNDLE`] if there is no bundle, or [`FLUENT_NO_MEMORY`]. If it isn't
-/// [`FLUENT_READ`], `text` holds what it held, at the same address.
+/// The call returns [`FLUENT_READ`], [`FLUENT_NO_BUNDLE`] if there is no bundle, or
+/// [`FLUENT_NO_MEMORY`]. If it isn't [`FLUENT_READ`], `text` holds what it held, at the same
+/// address.
 #[unsafe(no_mangle)]
 pub extern "C" fn fluent_bundle_messages(
     alloc: Global,
@@ -41,12 +43,14 @@ pub extern "C" fn fluent_bundle_messages(
 
 /// Lists the attributes of a message: `text` then holds their names, each ended by a line feed.
 ///
-/// They are in the order of the message. A name that the message has twice is there twice: of such a name the first attribute is
-/// the one that is formatted. An empty text says that the message has no attribute.
+/// They are in the order of the message. A name that the message has twice is there twice: of such
+/// a name the first attribute is the one that is formatted. An empty text says that the message has
+/// no attribute.
 ///
-/// The call returns [`FLUENT_READ`], [`FLUENT_NO_MESSAGE`] if there is no message of the id, [`FLUENT_NOT_UTF8`] if the id isn't
-/// UTF-8, [`FLUENT_NO_BUNDLE`] if there is no bundle, or [`FLUENT_NO_MEMORY`]. If it isn't [`FLUENT_READ`], `text` holds what it
-/// held, at the same address.
+/// The call returns [`FLUENT_READ`], [`FLUENT_NO_MESSAGE`] if there is no message of the id,
+/// [`FLUENT_NOT_UTF8`] if the id isn't UTF-8, [`FLUENT_NO_BUNDLE`] if there is no bundle, or
+/// [`FLUENT_NO_MEMORY`]. If it isn't [`FLUENT_READ`], `text` holds what it held, at the same
+/// address.
 #[unsafe(no_mangle)]
 pub extern "C" fn fluent_bundle_attributes<'a>(
     alloc: Global,

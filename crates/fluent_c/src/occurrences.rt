@@ -24,13 +24,15 @@ fn lines_text(alloc: Global, source: &str) -> Result<FluentText, AllocError>
     FluentText::of(alloc, lines)
 }
 
-/// Says where the symbols of a source are: a line of JSON for each definition of a message, a term or an attribute, and for each
-/// reference to one, to a variable or to a function, in the order of their offsets.
+/// Says where the symbols of a source are: a line of JSON for each definition of a message, a term
+/// or an attribute, and for each reference to one, to a variable or to a function, in the order of
+/// their offsets.
 ///
-/// `text` is the source's bytes. `docs/reference/occurrences.md` has the keys of a line. A stretch that can't be read has no
-/// lines, and the entries around it have theirs. The call returns [`FLUENT_READ`], also if the source has errors: then
-/// `made` holds the lines, and what it held before is freed. It returns [`FLUENT_NOT_UTF8`] or [`FLUENT_NO_MEMORY`]
-/// otherwise, and `made` is unchanged then. All other memory is freed when it returns.
+/// `text` is the source's bytes. `docs/reference/occurrences.md` has the keys of a line. A stretch
+/// that can't be read has no lines, and the entries around it have theirs. The call returns
+/// [`FLUENT_READ`], also if the source has errors: then `made` holds the lines, and what it held
+/// before is freed. It returns [`FLUENT_NOT_UTF8`] or [`FLUENT_NO_MEMORY`] otherwise, and `made` is
+/// unchanged then. All other memory is freed when it returns.
 #[unsafe(no_mangle)]
 pub extern "C" fn fluent_occurrences(alloc: Global, text: &[u8], made: &mut FluentText) -> u32
     ensures status { ReadsSource text.now result }

@@ -27,7 +27,8 @@ pub struct FluentBundleOptions<'o> {
     pub size: usize,
     /// The tag of the locale.
     pub locale: &'o [u8],
-    /// What reading and an answer may take of the machine's stack, in bytes; 0 for [`StackBudget::THREAD`].
+    /// What reading and an answer may take of the machine's stack, in bytes; 0 for
+    /// [`StackBudget::THREAD`].
     pub stack: usize,
     /// Whether placeables are between isolation marks.
     pub isolating: bool,
@@ -57,8 +58,8 @@ impl FluentBundleOptions<'_> {
 
 /// As [`fluent_bundle_new_within`](crate::fluent_bundle_new_within), by options.
 ///
-/// The call returns [`FLUENT_BAD_ARGUMENT`], too, if the size of the options isn't [`FLUENT_BUNDLE_OPTIONS_SIZE`]: they are of a
-/// later version, or nobody set it.
+/// The call returns [`FLUENT_BAD_ARGUMENT`], too, if the size of the options isn't
+/// [`FLUENT_BUNDLE_OPTIONS_SIZE`]: they are of a later version, or nobody set it.
 #[unsafe(no_mangle)]
 pub extern "C" fn fluent_bundle_new_with(
     alloc: Global,
@@ -76,7 +77,8 @@ pub extern "C" fn fluent_bundle_new_with(
     keep_by(alloc, sources, options, None, made)
 }
 
-/// Puts a bundle by options into `made`. Its messages may call functions of these names, if there are any.
+/// Puts a bundle by options into `made`. Its messages may call functions of these names, if there
+/// are any.
 pub(crate) fn keep_by(
     alloc: Global,
     sources: &[FluentSource<'_>],

@@ -117,17 +117,19 @@ fn lines_of(alloc: Global, resource: &Resource<&str>) -> Result<String, AllocErr
     Ok(text)
 }
 
-/// Lists the messages and the terms of a source, and their attributes, by their names, and counts its entries and errors as
-/// [`fluent_parse_runtime`](crate::counts::fluent_parse_runtime) does. The source is read once, for use at run time.
+/// Lists the messages and the terms of a source, and their attributes, by their names, and counts
+/// its entries and errors as [`fluent_parse_runtime`](crate::counts::fluent_parse_runtime) does.
+/// The source is read once, for use at run time.
 ///
-/// `text` is the source's bytes. `made` then holds a line for each message and each term, in their order, and after it a
-/// line for each of its attributes, in their order; each line is ended by a line feed. The line of a message is its id, and
-/// that of a term `-` and its id; ` =` follows if there is a value, which a term always has. The line of an attribute is a
-/// dot and its name. An id that the source has twice is there twice.
+/// `text` is the source's bytes. `made` then holds a line for each message and each term, in their
+/// order, and after it a line for each of its attributes, in their order; each line is ended by a
+/// line feed. The line of a message is its id, and that of a term `-` and its id; ` =` follows if
+/// there is a value, which a term always has. The line of an attribute is a dot and its name. An id
+/// that the source has twice is there twice.
 ///
-/// The call returns [`FLUENT_READ`], also if the source has errors: then what `made` held before is freed. It returns
-/// [`FLUENT_NOT_UTF8`] or [`FLUENT_NO_MEMORY`] otherwise, and `made` and `counts` are unchanged then. All other memory is
-/// freed when it returns.
+/// The call returns [`FLUENT_READ`], also if the source has errors: then what `made` held before is
+/// freed. It returns [`FLUENT_NOT_UTF8`] or [`FLUENT_NO_MEMORY`] otherwise, and `made` and `counts`
+/// are unchanged then. All other memory is freed when it returns.
 #[unsafe(no_mangle)]
 pub extern "C" fn fluent_outline(
     alloc: Global,

@@ -12,7 +12,8 @@ use std::marker::Model;
 
 /// A text that was written, or none.
 ///
-/// Only this crate makes one that holds a text. A caller in C reads the fields; the text is freed by [`fluent_free_text`].
+/// Only this crate makes one that holds a text. A caller in C reads the fields; the text is freed
+/// by [`fluent_free_text`].
 ///
 /// ```c
 /// struct FluentText answers = {0};
@@ -49,7 +50,8 @@ impl FluentText {
         }
     }
 
-    /// The text of buffers in a box, whose first byte this is. After this many the last is the byte 0.
+    /// The text of buffers in a box, whose first byte this is. After this many the last is the
+    /// byte 0.
     pub(crate) fn holding(
         bytes: *const u8,
         len: usize,

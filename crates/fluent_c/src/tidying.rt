@@ -78,14 +78,16 @@ fn read_errors(alloc: Global, source: &str) -> Result<Vec<ParserError>, AllocErr
     }
 }
 
-/// Tidies a source: writes it as a formatter writes code, with the messages, the terms and the comments that it has.
+/// Tidies a source: writes it as a formatter writes code, with the messages, the terms and the
+/// comments that it has.
 ///
-/// The call returns [`FLUENT_READ`], and `made` holds the text; what it held before is freed. It returns [`FLUENT_DAMAGED`] if
-/// the source can't be read somewhere: `place` is the first such place. It returns [`FLUENT_CARRIAGE_RETURN`] if the source
-/// has a carriage return that isn't part of CR LF, [`FLUENT_NOT_TIDY`] if it has no tidy text, as
-/// `docs/reference/normal-text.md` says, [`FLUENT_NOT_UTF8`] or [`FLUENT_NO_MEMORY`] otherwise. `made` is unchanged
-/// unless it returns [`FLUENT_READ`], and `place` unless it returns [`FLUENT_DAMAGED`]. All other memory is freed when it
-/// returns.
+/// The call returns [`FLUENT_READ`], and `made` holds the text; what it held before is freed. It
+/// returns [`FLUENT_DAMAGED`] if the source can't be read somewhere: `place` is the first such
+/// place. It returns [`FLUENT_CARRIAGE_RETURN`] if the source has a carriage return that isn't part
+/// of CR LF, [`FLUENT_NOT_TIDY`] if it has no tidy text, as `docs/reference/normal-text.md` says,
+/// [`FLUENT_NOT_UTF8`] or [`FLUENT_NO_MEMORY`] otherwise. `made` is unchanged unless it returns
+/// [`FLUENT_READ`], and `place` unless it returns [`FLUENT_DAMAGED`]. All other memory is freed
+/// when it returns.
 #[unsafe(no_mangle)]
 pub extern "C" fn fluent_tidy(
     alloc: Global,
@@ -125,8 +127,8 @@ fn put_damage_before(alloc: Global, source: &str, place: &mut FluentPlace) -> u3
 }
 
 /// Puts the place of the first of the errors of a source. It returns [`FLUENT_DAMAGED`],
-/// [`FLUENT_CARRIAGE_RETURN`] if there are no errors, or [`FLUENT_NO_MEMORY`] if memory runs out. The
-/// place is unchanged unless it returns [`FLUENT_DAMAGED`].
+/// [`FLUENT_CARRIAGE_RETURN`] if there are no errors, or [`FLUENT_NO_MEMORY`] if memory runs out.
+/// The place is unchanged unless it returns [`FLUENT_DAMAGED`].
 #[tactic(auto, using(crate::proofs::Damage::none_damaged))]
 fn put_damage(alloc: Global, source: &str, errors: &[ParserError], place: &mut FluentPlace) -> u32
     requires { AreTold errors.now (tiling.errors (plain source.now)) }

@@ -6,7 +6,8 @@ ghost use Rattle.std.specs.Str.{IsAscii};
 use simdutf8::basic::from_utf8;
 use std::str::from_utf8_unchecked;
 
-/// Bytes up to this many are looked at one by one first: most ids, names and values are short, and in ASCII.
+/// Bytes up to this many are looked at one by one first: most ids, names and values are short, and
+/// in ASCII.
 const SHORT: usize = 16;
 
 /// The text that bytes are, if they are UTF-8.

@@ -13,19 +13,23 @@ use fluent_kept::{Answer, FluentBundle, Question};
 use std::alloc::Global;
 use std::str::from_utf8;
 
-/// Lists the variables that a message is shown with: `text` then holds their names, each ended by a line feed.
+/// Lists the variables that a message is shown with: `text` then holds their names, each ended by a
+/// line feed.
 ///
-/// They are those of the message and those of the messages that it refers to, directly or not, in values and in attributes alike.
-/// First come those of the message, in the order in which it has them, then those of the messages that it names, in that order,
-/// and then those of the messages that these name. Each is there once, also if messages refer to each other or to themselves. Of a
-/// term nothing is there: its variables are its own arguments. An empty text says that there is no variable.
+/// They are those of the message and those of the messages that it refers to, directly or not, in
+/// values and in attributes alike. First come those of the message, in the order in which it has
+/// them, then those of the messages that it names, in that order, and then those of the messages
+/// that these name. Each is there once, also if messages refer to each other or to themselves. Of a
+/// term nothing is there: its variables are its own arguments. An empty text says that there is no
+/// variable.
 ///
-/// A call takes time in proportion to what the message refers to: so to ask for each message of a long chain of references takes
-/// time in proportion to the square of its length.
+/// A call takes time in proportion to what the message refers to: so to ask for each message of a
+/// long chain of references takes time in proportion to the square of its length.
 ///
-/// The call returns [`FLUENT_READ`], [`FLUENT_NO_MESSAGE`] if there is no message of the id, [`FLUENT_NOT_UTF8`] if the id isn't
-/// UTF-8, [`FLUENT_NO_BUNDLE`] if there is no bundle, or [`FLUENT_NO_MEMORY`]. If it isn't [`FLUENT_READ`], `text` holds what it
-/// held, at the same address.
+/// The call returns [`FLUENT_READ`], [`FLUENT_NO_MESSAGE`] if there is no message of the id,
+/// [`FLUENT_NOT_UTF8`] if the id isn't UTF-8, [`FLUENT_NO_BUNDLE`] if there is no bundle, or
+/// [`FLUENT_NO_MEMORY`]. If it isn't [`FLUENT_READ`], `text` holds what it held, at the same
+/// address.
 #[unsafe(no_mangle)]
 pub extern "C" fn fluent_bundle_variables<'a>(
     alloc: Global,

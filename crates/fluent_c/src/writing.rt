@@ -64,10 +64,11 @@ fn json_text(alloc: Global, text: &str) -> Result<FluentText, AllocError>
 
 /// Reads a source and writes its tree back.
 ///
-/// `text` is the source's bytes. Its junk is written as it is if `with_junk` is true, and otherwise left out.
-/// The call returns [`FLUENT_READ`], also if the source has errors: then `made` holds the written text, and what it held
-/// before is freed. It returns [`FLUENT_NOT_UTF8`] or [`FLUENT_NO_MEMORY`] otherwise, and `made` is unchanged then. All
-/// other memory is freed when it returns.
+/// `text` is the source's bytes. Its junk is written as it is if `with_junk` is true, and otherwise
+/// left out. The call returns [`FLUENT_READ`], also if the source has errors: then `made` holds the
+/// written text, and what it held before is freed. It returns [`FLUENT_NOT_UTF8`] or
+/// [`FLUENT_NO_MEMORY`] otherwise, and `made` is unchanged then. All other memory is freed when it
+/// returns.
 #[unsafe(no_mangle)]
 pub extern "C" fn fluent_write(
     alloc: Global,
@@ -92,7 +93,8 @@ pub extern "C" fn fluent_write(
     }
 }
 
-/// Reads a source and writes its tree as JSON, compact, with the keys of each object in the order of their bytes.
+/// Reads a source and writes its tree as JSON, compact, with the keys of each object in the order
+/// of their bytes.
 ///
 /// The tree has the source's junk. The call returns what [`fluent_write`] does.
 #[unsafe(no_mangle)]

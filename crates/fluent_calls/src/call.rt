@@ -11,8 +11,8 @@ use fluent_value::{FluentArgs, FluentValue, NoCustom};
 use serde_json::{Map, Value};
 use std::alloc::{AllocError, Global};
 
-/// The text of a call of a function of this name: an array of JSON with the name, the positional arguments, and an object of
-/// the named ones.
+/// The text of a call of a function of this name: an array of JSON with the name, the positional
+/// arguments, and an object of the named ones.
 ///
 /// # Errors
 /// [`AllocError`] if memory runs out; nothing is kept.

@@ -19,7 +19,8 @@ use std::borrow::CowStr;
 use std::cell::Cell;
 use std::marker::PhantomData;
 
-/// What a pattern is resolved in but for its messages and terms: the functions' names, and the answers to their calls.
+/// What a pattern is resolved in but for its messages and terms: the functions' names, and the
+/// answers to their calls.
 ///
 /// A call that has no answer ends resolving, and is left in `missing`.
 #[derive(Drop)]
@@ -38,7 +39,8 @@ impl<'b, 't, K: Otherwise, M: MemoizerKind> Calls<'b, 't, K, M> {
     /// The answer to a call of the function at a place among the names.
     ///
     /// # Errors
-    /// [`AllocError`] if memory runs out, or if there is no answer, and then the call is left in `missing`.
+    /// [`AllocError`] if memory runs out, or if there is no answer, and then the call is left in
+    /// `missing`.
     fn answer<'a>(
         &self,
         place: usize,

@@ -8,9 +8,10 @@ use fluent_ids::{AddFunctionError, FluentIds};
 use fluent_resource::FluentResource;
 use std::alloc::{AllocError, Global};
 
-/// What the ids of resources stand for, and then the names of functions, each of which is its place among the names.
-/// First comes `NUMBER`, and then the messages and terms of the resources, in their order. Of an id the first entry counts, or the
-/// last with `overriding`; a function counts only if its name stands for nothing.
+/// What the ids of resources stand for, and then the names of functions, each of which is its place
+/// among the names. First comes `NUMBER`, and then the messages and terms of the resources, in
+/// their order. Of an id the first entry counts, or the last with `overriding`; a function counts
+/// only if its name stands for nothing.
 ///
 /// # Errors
 /// [`AllocError`] if memory runs out; nothing is kept.

@@ -34,9 +34,9 @@ use std::marker::PhantomData;
 /// How many bytes a text has room for at least. Most texts take no more, and are never moved.
 const ROOM: usize = 128;
 
-/// What formats messages that may call functions: the ids of sources and of functions, the functions' names, the plural source,
-/// whether placeables stand between isolation marks, how numbers are written, and how much of the machine's stack an answer may
-/// take.
+/// What formats messages that may call functions: the ids of sources and of functions, the
+/// functions' names, the plural source, whether placeables stand between isolation marks, how
+/// numbers are written, and how much of the machine's stack an answer may take.
 #[derive(Drop)]
 pub struct FunctionDesk<'b, 'r, 's, M> {
     ids: FluentIds<'r, 's, usize>,
@@ -59,8 +59,8 @@ pub struct DeskSettings {
 }
 
 impl<'b, 'r, 's, M: MemoizerKind> FunctionDesk<'b, 'r, 's, M> {
-    /// Formats from resources, in their order, which may call functions of these names. A name counts only if it isn't the id of
-    /// a message or a term, nor `NUMBER`.
+    /// Formats from resources, in their order, which may call functions of these names. A name
+    /// counts only if it isn't the id of a message or a term, nor `NUMBER`.
     ///
     /// # Errors
     /// [`AllocError`] if memory runs out; nothing is kept.
@@ -117,15 +117,17 @@ impl<'b, 'r, 's, M: MemoizerKind> FunctionDesk<'b, 'r, 's, M> {
         self.pattern_named(id, attribute).is_some()
     }
 
-    /// What a message comes to for these arguments, with these answers by the calls' texts: its value, or its first attribute of
-    /// a name. `None` if there is no such message, value or attribute. It is written into the memory of `text`, whose old bytes
-    /// are lost.
+    /// What a message comes to for these arguments, with these answers by the calls' texts: its
+    /// value, or its first attribute of a name. `None` if there is no such message, value or
+    /// attribute. It is written into the memory of `text`, whose old bytes are lost.
     ///
-    /// If it is a text, all calls that were met have answers: whatever functions would give to other calls, the text is the same.
+    /// If it is a text, all calls that were met have answers: whatever functions would give to
+    /// other calls, the text is the same.
     ///
     /// # Errors
-    /// [`AllocError`] if memory runs out, or if calls and placeables nest so deep, over all messages that are entered, that they
-    /// would take more of the machine's stack than the desk's budget; nothing is kept.
+    /// [`AllocError`] if memory runs out, or if calls and placeables nest so deep, over all
+    /// messages that are entered, that they would take more of the machine's stack than the desk's
+    /// budget; nothing is kept.
     pub fn format<K: Otherwise>(
         &self,
         alloc: Global,
@@ -198,10 +200,12 @@ fn missing_call(
     }
 }
 
-/// What a pattern gives, within a budget of the machine's stack. It is written into the memory of `text`, whose old bytes are lost.
+/// What a pattern gives, within a budget of the machine's stack. It is written into the memory of
+/// `text`, whose old bytes are lost.
 ///
 /// # Errors
-/// [`AllocError`] if memory runs out, the budget does, or the context ends resolving; nothing is kept.
+/// [`AllocError`] if memory runs out, the budget does, or the context ends resolving; nothing is
+/// kept.
 fn resolve<'b, 'r, 's, 'a, C: FluentType + Drop, F, E: Context<C, F>>(
     place: &Surroundings<'b, 'r, 's, 'a, C, F, E>,
     pattern: &'r Pattern<&'s str>,

@@ -16,7 +16,8 @@ pub struct Written {
 pub enum Outcome {
     /// The text: each call that it met has an answer.
     Text(Written),
-    /// The first call that has no answer: a line of JSON, an array of the function's name, an array of the positional
-    /// arguments, and an object of the named ones. A text is a text there, a number `{"number":"1.50"}`, and no value `null`.
+    /// The first call that has no answer: a line of JSON, an array of the function's name, an array
+    /// of the positional arguments, and an object of the named ones. A text is a text there, a
+    /// number `{"number":"1.50"}`, and no value `null`.
     Call(String),
 }

@@ -23,10 +23,11 @@ use std::alloc::{AllocError, Global};
 /// ```
 #[derive(Debug, PartialEq, Eq, Drop)]
 pub struct Report {
-    /// For each source its errors, one for each stretch that is no entry, in the order of their places.
+    /// For each source its errors, one for each stretch that is no entry, in the order of their
+    /// places.
     pub errors: Vec<Vec<ParserError>>,
-    /// [`FluentError::Overriding`] for each message and term whose id was there before it, in the order of the sources and of
-    /// their places. `NUMBER` is there from the start.
+    /// [`FluentError::Overriding`] for each message and term whose id was there before it, in the
+    /// order of the sources and of their places. `NUMBER` is there from the start.
     pub notices: Vec<FluentError>,
 }
 
@@ -37,8 +38,9 @@ pub struct Report {
 /// ```
 ///
 /// # Errors
-/// [`AllocError`] if memory runs out; nothing is kept. It also means that placeables, calls and selects of a source
-/// are nested so deep that reading them would take more than the budget of a program, [`StackBudget::PROGRAM`].
+/// [`AllocError`] if memory runs out; nothing is kept. It also means that placeables, calls and
+/// selects of a source are nested so deep that reading them would take more than the budget of a
+/// program, [`StackBudget::PROGRAM`].
 pub fn check(alloc: Global, sources: &[&str]) -> Result<Report, AllocError>
     ensures { IfOk result (IsReportOn (texts sources.now)) }
 {

@@ -62,7 +62,8 @@ impl<'s> ReadSources<'s> {
     }
 }
 
-/// What is read of each source, in their order, within this budget of the machine's stack for each message and term.
+/// What is read of each source, in their order, within this budget of the machine's stack for each
+/// message and term.
 ///
 /// # Errors
 /// [`AllocError`] if memory runs out, or the budget does; nothing is kept.

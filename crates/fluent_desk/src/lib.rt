@@ -3,8 +3,9 @@
 //! Answers from Fluent sources, checks them and tidies them. Tidying changes no text that
 //! they show.
 //!
-//! A translation file gets damaged, is put together from others, or has been written by another tool. The calls that tidy give
-//! it back in order: with the messages and terms that it had, or not at all.
+//! A translation file gets damaged, is put together from others, or has been written by another
+//! tool. The calls that tidy give it back in order: with the messages and terms that it had, or not
+//! at all.
 //!
 //! | Call | Gives |
 //! |---|---|
@@ -22,10 +23,12 @@
 //! let normal = normalize(alloc, &cleaned)?; // key1 = Value 1, key2 = { $x }
 //! ```
 //!
-//! The calls that tidy refuse sources with a carriage return, since written text ends its lines in a line feed alone. No call
-//! changes what is passed to it. [`laws`] says what stays when sources are tidied, over plain data.
+//! The calls that tidy refuse sources with a carriage return, since written text ends its lines in
+//! a line feed alone. No call changes what is passed to it. [`laws`] says what stays when sources
+//! are tidied, over plain data.
 //!
-//! The calls stand in three crates: `fluent_run` answers, `fluent_check` checks, and `fluent_tidy` tidies.
+//! The calls stand in three crates: `fluent_run` answers, `fluent_check` checks, and `fluent_tidy`
+//! tidies.
 
 pub use fluent_check::{Report, check};
 pub use fluent_run::{

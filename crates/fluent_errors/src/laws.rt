@@ -13,7 +13,8 @@ pub fn equal_entry_kinds()
     ensures plain { EqualIfSeenSame ⟦<EntryKind as PartialEq>⟧.eq entry_view }
 {}
 
-/// `==` of references is an equivalence, and two are equal exactly if they are of one kind with the same names.
+/// `==` of references is an equivalence, and two are equal exactly if they are of one kind with the
+/// same names.
 pub fn equal_references()
     ensures equivalence { IsEquivalence ⟦<ReferenceKind as PartialEq>⟧.eq }
     ensures plain { EqualIfSeenSame ⟦<ReferenceKind as PartialEq>⟧.eq reference_view }

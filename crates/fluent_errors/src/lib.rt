@@ -1,9 +1,11 @@
 #![tactic(auto)]
 
-//! What goes wrong while Fluent messages are put into a bundle and resolved, as values that a program can look at.
+//! What goes wrong while Fluent messages are put into a bundle and resolved, as values that a
+//! program can look at.
 //!
-//! A [`FluentError`] is what a bundle reports, a [`ResolverError`] what resolving a pattern reports next to its text,
-//! and a [`ReferenceKind`] says what could not be found. The text of each is the one of `docs/reference/errors.md`.
+//! A [`FluentError`] is what a bundle reports, a [`ResolverError`] what resolving a pattern reports
+//! next to its text, and a [`ReferenceKind`] says what could not be found. The text of each is the
+//! one of `docs/reference/errors.md`.
 
 mod bundle;
 mod entry;

@@ -28,7 +28,8 @@ pub enum ResolverError {
     MissingDefault,
     /// A pattern refers to itself, by itself or through others.
     Cyclic,
-    /// One placeable more than a pattern may hold was to be opened, those of the patterns that it refers to included.
+    /// One placeable more than a pattern may hold was to be opened, those of the patterns that it
+    /// refers to included.
     TooManyPlaceables,
 }
 

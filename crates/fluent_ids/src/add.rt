@@ -16,12 +16,12 @@ use std::alloc::AllocError;
 use std::borrow::CowStr;
 
 impl<'r, 's, F: Drop> FluentIds<'r, 's, F> {
-    /// Adds the messages and terms of a resource, by its tree. Where two entries have one id, the first stays, whatever it is
-    /// and wherever it comes from.
+    /// Adds the messages and terms of a resource, by its tree. Where two entries have one id, the
+    /// first stays, whatever it is and wherever it comes from.
     ///
     /// # Errors
-    /// - [`AddResourceError::Overriding`] has a notice for each entry whose id stood for another one, in the order of the
-    ///   entries. All other entries were added.
+    /// - [`AddResourceError::Overriding`] has a notice for each entry whose id stood for another
+    ///   one, in the order of the entries. All other entries were added.
     /// - [`AddResourceError::Memory`] if memory runs out. Nothing is added then.
     pub fn add_resource(&mut self, resource: &'r Resource<&'s str>) -> Result<(), AddResourceError>
         ensures added { AddsFirst F result self.old self.new resource.now }
@@ -38,8 +38,8 @@ impl<'r, 's, F: Drop> FluentIds<'r, 's, F> {
         }
     }
 
-    /// Adds the messages and terms of a resource, by its tree, as [`FluentIds::add_resource`] does, and makes no notices. It
-    /// looks each id up once.
+    /// Adds the messages and terms of a resource, by its tree, as [`FluentIds::add_resource`] does,
+    /// and makes no notices. It looks each id up once.
     ///
     /// # Errors
     /// [`AllocError`] if memory runs out; the ids are unchanged.
@@ -55,7 +55,8 @@ impl<'r, 's, F: Drop> FluentIds<'r, 's, F> {
         Ok(())
     }
 
-    /// Adds the messages and terms of a resource, by its tree. Where two entries have one id, the last stays.
+    /// Adds the messages and terms of a resource, by its tree. Where two entries have one id, the
+    /// last stays.
     ///
     /// # Errors
     /// [`AllocError`] if memory runs out; the ids are unchanged.

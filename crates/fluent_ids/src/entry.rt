@@ -9,7 +9,8 @@ ghost use Rattle.fluent_meaning.specs.Ids.{entries_by_id, kind_of};
 use fluent_ast::{self as ast, Message, Resource, Term};
 use fluent_errors::EntryKind;
 
-/// What an id stands for. A message and a term are next to the tree of the resource that they come from.
+/// What an id stands for. A message and a term are next to the tree of the resource that they come
+/// from.
 ///
 /// ```no_run
 /// if let Some(Entry::Term((_, term))) = ids.get("brand") {
@@ -44,7 +45,8 @@ pub enum FunctionRef<'b, F> {
 }
 
 impl<'r, 's, F> Entry<'r, 's, F> {
-    /// The id of a message or term of a resource, and the entry that it becomes. Other entries have none.
+    /// The id of a message or term of a resource, and the entry that it becomes. Other entries have
+    /// none.
     pub(crate) fn of(
         resource: &'r Resource<&'s str>,
         entry: &'r ast::Entry<&'s str>,

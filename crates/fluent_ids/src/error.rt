@@ -24,7 +24,8 @@ use std::fmt;
 /// ```
 #[derive(Debug, PartialEq, Eq, Drop)]
 pub enum AddResourceError {
-    /// These entries were left out, since their ids stand for another entry already. All others were added.
+    /// These entries were left out, since their ids stand for another entry already. All others
+    /// were added.
     Overriding(Vec<FluentError>),
     /// Memory ran out. Nothing was added.
     Memory,

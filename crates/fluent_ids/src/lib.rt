@@ -2,9 +2,10 @@
 
 //! The map of ids: the messages, terms and functions of a bundle share it.
 //!
-//! [`FluentIds`] holds what each id stands for. Its keys are slices of the sources; only functions, which come from no source,
-//! have copies of theirs. Contracts speak of it through its plain map, the pairs of ids and meanings of `fluent_meaning`. A
-//! [`FluentMessage`] and a [`FluentAttribute`] are a message and an attribute as programs get them.
+//! [`FluentIds`] holds what each id stands for. Its keys are slices of the sources; only functions,
+//! which come from no source, have copies of theirs. Contracts speak of it through its plain map,
+//! the pairs of ids and meanings of `fluent_meaning`. A [`FluentMessage`] and a [`FluentAttribute`]
+//! are a message and an attribute as programs get them.
 
 mod add;
 mod attribute;

@@ -1,4 +1,5 @@
-//! The values of an object at its keys. They are read one after the other, in the order of the keys' bytes.
+//! The values of an object at its keys. They are read one after the other, in the order of the
+//! keys' bytes.
 
 ghost use Rattle.std.specs.Prelude.{◌≡◌, ◌≢◌, IfSome, IfNone};
 ghost use Rattle.serde_json.specs.Data.{Data, object, string, member, no_members};

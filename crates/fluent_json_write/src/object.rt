@@ -10,8 +10,8 @@ use std::alloc::{AllocError, Global};
 
 /// The object of a part of a tree, with those of its keys that it was given so far.
 ///
-/// A value that is given lies in the object at once, so that whoever makes one holds nothing else while it makes the
-/// next.
+/// A value that is given lies in the object at once, so that whoever makes one holds nothing else
+/// while it makes the next.
 #[derive(Drop)]
 pub struct Object {
     alloc: Global,

@@ -1,7 +1,9 @@
-//! The parts of the objects of a tree's JSON value, one function for each row of `docs/reference/json.md`.
+//! The parts of the objects of a tree's JSON value, one function for each row of
+//! `docs/reference/json.md`.
 //!
-//! Each gives the values of an object's keys, or None if the value isn't that object: if a key is unknown or
-//! missing, the `type` is another one, or a text, an array or a truth value is something else.
+//! Each gives the values of an object's keys, or None if the value isn't that object: if a key is
+//! unknown or missing, the `type` is another one, or a text, an array or a truth value is something
+//! else.
 
 ghost use Rattle.std.specs.Prelude.{◌≡◌, ◌≢◌, ℕ, List, IfSome, IfNone};
 ghost use Rattle.serde_json.specs.Data.{Data, Items};

@@ -1,4 +1,5 @@
-//! From a tree to its JSON value, object by object: each function makes those of a row of `docs/reference/json.md`.
+//! From a tree to its JSON value, object by object: each function makes those of a row of
+//! `docs/reference/json.md`.
 
 ghost use Rattle.std.specs.Prelude.{◌≡◌, IfOk};
 ghost use Rattle.serde_json.specs.View.{view, items_view};
@@ -16,10 +17,11 @@ use fluent_ast::{
 use serde_json::Value;
 use std::alloc::{AllocError, Global};
 
-/// The JSON value of a tree, as `docs/reference/json.md` says. It is defined for every tree, also for one that no
-/// source reads as.
+/// The JSON value of a tree, as `docs/reference/json.md` says. It is defined for every tree, also
+/// for one that no source reads as.
 ///
-/// An object holds its members in the order of their keys' bytes, and the compact text of the value writes them so.
+/// An object holds its members in the order of their keys' bytes, and the compact text of the value
+/// writes them so.
 ///
 /// ```
 /// let value = to_value(alloc, tree)?;

@@ -78,7 +78,8 @@ impl Bundle {
     /// Reads sources, and keeps them.
     ///
     /// # Errors
-    /// [`AllocError`] if memory runs out, or a message or a term of theirs nests too deep for their budget; nothing is kept.
+    /// [`AllocError`] if memory runs out, or a message or a term of theirs nests too deep for their
+    /// budget; nothing is kept.
     pub fn new(alloc: Global, sources: Sources) -> Result<Bundle, AllocError>
         ensures { IfOk result (λ bundle. bundle.catalog ≡ catalog_of sources) }
     {

@@ -30,8 +30,8 @@ pub(crate) struct KeptDesk<'r, 's> {
 pub(crate) enum Desks<'r, 's> {
     /// Messages call no functions.
     Plain(Desk<'s, 'r, 's, LanguagePlurals>),
-    /// Messages call functions, which are among the ids. To what asks as if there were none, another desk answers: the first such
-    /// question makes it.
+    /// Messages call functions, which are among the ids. To what asks as if there were none,
+    /// another desk answers: the first such question makes it.
     Calling(FunctionDesk<'s, 'r, 's, LanguagePlurals>, Option<Desk<'s, 'r, 's, LanguagePlurals>>),
 }
 
@@ -89,7 +89,8 @@ impl<'r, 's> KeptDesk<'r, 's> {
         }
     }
 
-    /// What a message gives for these arguments, as if there were no functions. The text is written into the memory of `spare`.
+    /// What a message gives for these arguments, as if there were no functions. The text is written
+    /// into the memory of `spare`.
     fn format(
         &self,
         alloc: Global,
@@ -106,8 +107,8 @@ impl<'r, 's> KeptDesk<'r, 's> {
         }
     }
 
-    /// What a message that may call functions gives for these arguments, with these answers to calls. The text is written into
-    /// the memory of `spare`.
+    /// What a message that may call functions gives for these arguments, with these answers to
+    /// calls. The text is written into the memory of `spare`.
     fn call(
         &self,
         alloc: Global,

@@ -14,7 +14,8 @@ use std::marker::Model;
 
 /// A bundle that is kept, or none.
 ///
-/// A caller in C keeps it, and reads only whether there is one. It isn't `Drop`: [`FluentBundle::clear`] frees what it keeps.
+/// A caller in C keeps it, and reads only whether there is one. It isn't `Drop`:
+/// [`FluentBundle::clear`] frees what it keeps.
 ///
 /// ```c
 /// struct Messages messages = {{0}, {0}, {0}};
@@ -94,7 +95,8 @@ impl FluentBundle {
     /// Reads sources, and keeps them.
     ///
     /// # Errors
-    /// [`AllocError`] if memory runs out, or a message or a term of theirs nests too deep for their budget; nothing is kept.
+    /// [`AllocError`] if memory runs out, or a message or a term of theirs nests too deep for their
+    /// budget; nothing is kept.
     pub fn new(alloc: Global, sources: Sources) -> Result<FluentBundle, AllocError>
         ensures { IfOk result (λ made. (made.held ≡ true) × (made.catalog ≡ catalog_of sources)) }
     {

@@ -1,6 +1,8 @@
-//! A bundle that lasts: sources, what is read of them, and what answers from that, kept together by pointers.
+//! A bundle that lasts: sources, what is read of them, and what answers from that, kept together by
+//! pointers.
 //!
-//! A [`FluentBundle`] owns all of it and borrows nothing, so a program in C can keep one from call to call.
+//! A [`FluentBundle`] owns all of it and borrows nothing, so a program in C can keep one from call
+//! to call.
 #![tactic(auto)]
 
 mod bundle;

@@ -7,15 +7,16 @@ use std::cell::Cell;
 /// What a bundle is asked.
 #[derive(Drop)]
 pub enum Question<'a> {
-    /// What a message gives for these arguments: its value, or its first attribute of a name. The text is written into the memory
-    /// of `spare`, which is taken.
+    /// What a message gives for these arguments: its value, or its first attribute of a name. The
+    /// text is written into the memory of `spare`, which is taken.
     Format {
         id: &'a str,
         attribute: Option<&'a str>,
         arguments: FluentArgs<'a, NoCustom>,
         spare: Cell<String>,
     },
-    /// The same for a message that may call the program's functions, with answers to calls by the calls' texts.
+    /// The same for a message that may call the program's functions, with answers to calls by the
+    /// calls' texts.
     Call {
         id: &'a str,
         attribute: Option<&'a str>,
@@ -57,8 +58,8 @@ pub enum Answer {
     Reply(Reply),
     /// The first call that has no answer.
     Call(String),
-    /// A line for each id, in the order of the first entries; for each name of an attribute, in the order of the message; or for
-    /// each variable, in the order in which they are met.
+    /// A line for each id, in the order of the first entries; for each name of an attribute, in the
+    /// order of the message; or for each variable, in the order in which they are met.
     Names(String),
     /// A line for each error and for each entry whose id was there before it.
     Report(String),

@@ -1,7 +1,8 @@
 //! The laws of negotiation.
 ghost use Rattle.fluent_languages.specs.Laws.{FindsEachOnce, LookupIsTheFirst, NoTagIsPassedOver};
 
-/// The positions that [`negotiate`](crate::negotiate) finds are those of languages of the program, and none is there twice.
+/// The positions that [`negotiate`](crate::negotiate) finds are those of languages of the program,
+/// and none is there twice.
 pub fn finds_each_once()
     ensures { FindsEachOnce }
 {}

@@ -35,8 +35,9 @@ const STEPS: [Step; 9] = [
     Step::OtherScript,
 ];
 
-/// The languages of a program that are used for those that a user asks for, the best first. The last resort comes after them: for
-/// `Lookup` if there is no other, and else unless it is among them.
+/// The languages of a program that are used for those that a user asks for, the best first. The
+/// last resort comes after them: for `Lookup` if there is no other, and else unless it is among
+/// them.
 ///
 /// # Errors
 /// [`AllocError`] if memory runs out.
@@ -295,7 +296,8 @@ fn best_in(
     None
 }
 
-/// The position of the first offer that suits a request in this way, of those that weren't found before.
+/// The position of the first offer that suits a request in this way, of those that weren't found
+/// before.
 fn find_first(
     step: Step,
     request: &Request<'_>,

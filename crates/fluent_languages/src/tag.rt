@@ -11,8 +11,9 @@ use crate::parts::{
 };
 use crate::variants::Variants;
 
-/// A language tag, such as `de`, `zh-Hant-TW` or `ca-ES-valencia`: a language, and a script, a region and variants if they are named.
-/// Letters may be in either case, and `_` is the same as `-`.
+/// A language tag, such as `de`, `zh-Hant-TW` or `ca-ES-valencia`: a language, and a script, a
+/// region and variants if they are named. Letters may be in either case, and `_` is the same as
+/// `-`.
 ///
 /// It borrows the text that it is read from.
 #[derive(Clone, Copy, Debug)]
@@ -35,7 +36,8 @@ impl<'t> LanguageTag<'t> {
     pub fn parse_bytes(text: &'t [u8]) -> Option<Self>
         ensures { option_map tag_of result ≡ read_tag text.now }
     {
-        // What follows calls itself for each byte, so a text of any length would take any amount of stack.
+        // What follows calls itself for each byte, so a text of any length would take any amount of
+        // stack.
         if text.len() > 255 {
             return None;
         }
@@ -84,7 +86,8 @@ impl<'t> LanguageTag<'t> {
         self.variants
     }
 
-    /// The tag with the script and the region that its language likely has, such as `zh-Hant-TW` for `zh-TW`.
+    /// The tag with the script and the region that its language likely has, such as `zh-Hant-TW`
+    /// for `zh-TW`.
     #[tactic(auto, unfolding(crate::specs::Steps::maximized))]
     pub fn maximize(&self) -> Self
         ensures { tag_of result ≡ maximized (tag_of self.now) }

@@ -1,5 +1,6 @@
 //! The variants of a tag.
-// Its definitions are in `specs/Tags.antt`, which names this type, so the code that keeps to them is in `walking.rt`.
+// Its definitions are in `specs/Tags.antt`, which names this type, so the code that keeps to them
+// is in `walking.rt`.
 ghost use Rattle.std.specs.Str.{IsAscii};
 
 /// The variants of a tag in their order, each as it was written, in either case.

@@ -65,8 +65,8 @@ fn is_lacking(summary: &Summary) -> bool
     }
 }
 
-/// The counts of the files of a catalog, and then those of its reference, by all findings of the catalog. Without files
-/// of a reference there are none.
+/// The counts of the files of a catalog, and then those of its reference, by all findings of the
+/// catalog. Without files of a reference there are none.
 ///
 /// # Errors
 /// [`AllocError`] if memory runs out; nothing is kept.

@@ -14,7 +14,8 @@ use lint_files::{Rules, file_findings, syntax_findings};
 use lint_finding::{FileFindings, Finding};
 use std::alloc::{AllocError, Global};
 
-/// All findings by these rules: those of the files of a catalog, and then the messages of its reference that it hasn't.
+/// All findings by these rules: those of the files of a catalog, and then the messages of its
+/// reference that it hasn't.
 ///
 /// # Errors
 /// [`AllocError`] if memory runs out; nothing is kept.
@@ -57,8 +58,8 @@ fn catalog_findings<'s>(
     Ok(found)
 }
 
-/// The findings of a file in the order of their offsets, after the declarations of others. Its own declarations are added
-/// to those.
+/// The findings of a file in the order of their offsets, after the declarations of others. Its own
+/// declarations are added to those.
 fn findings_of_file<'s>(
     alloc: Global,
     rules: &Rules<'_, '_, 's>,

@@ -12,8 +12,8 @@ use fluent_ids::AddFunctionError;
 use lint_finding::CatalogIds;
 use std::alloc::AllocError;
 
-/// Adds to no ids what the ids of a catalog stand for: the functions that are known, and then the entries of these trees.
-/// The first of an id stays.
+/// Adds to no ids what the ids of a catalog stand for: the functions that are known, and then the
+/// entries of these trees. The first of an id stays.
 ///
 /// # Errors
 /// [`AllocError`] if memory runs out; some may be added then.
@@ -33,8 +33,8 @@ pub fn add_ids<'r, 's>(
     Ok(())
 }
 
-/// Adds the functions that are known to no ids: `NUMBER`, these functions, and then those that the reference calls. The
-/// first of an id stays.
+/// Adds the functions that are known to no ids: `NUMBER`, these functions, and then those that the
+/// reference calls. The first of an id stays.
 ///
 /// # Errors
 /// [`AllocError`] if memory runs out; some may be added then.

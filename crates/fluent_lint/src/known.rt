@@ -15,8 +15,8 @@ use lint_comparison::{Reference, called_functions};
 use lint_finding::CatalogIds;
 use std::alloc::{AllocError, Global};
 
-/// What ids stand for: those of the functions that are known, those of a catalog, and those of its reference. Each has
-/// the functions.
+/// What ids stand for: those of the functions that are known, those of a catalog, and those of its
+/// reference. Each has the functions.
 #[derive(Drop)]
 pub struct Known<'r, 's> {
     pub functions: CatalogIds<'r, 's>,
@@ -38,8 +38,8 @@ impl<'r, 's> Known<'r, 's> {
         }
     }
 
-    /// What is known of the files of a catalog and of its reference, which has none if there is no reference. The
-    /// functions that the reference calls are known, too.
+    /// What is known of the files of a catalog and of its reference, which has none if there is no
+    /// reference. The functions that the reference calls are known, too.
     ///
     /// # Errors
     /// [`AllocError`] if memory runs out; nothing is kept.

@@ -11,7 +11,8 @@ use lint_comparison::missing_findings;
 use lint_finding::{CatalogIds, FileFindings};
 use std::alloc::{AllocError, Global};
 
-/// Adds the messages of the files of a reference that a catalog with these ids hasn't, file by file.
+/// Adds the messages of the files of a reference that a catalog with these ids hasn't, file by
+/// file.
 ///
 /// # Errors
 /// [`AllocError`] if memory runs out; some may be added then.

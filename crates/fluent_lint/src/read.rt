@@ -12,7 +12,8 @@ use fluent_parser::{Error, ParserError, StackBudget, parse_within};
 use lint_finding::File;
 use std::alloc::{AllocError, Global};
 
-/// Files with their trees, without the comments above messages and terms, and with the errors of each file.
+/// Files with their trees, without the comments above messages and terms, and with the errors of
+/// each file.
 #[derive(Drop)]
 pub struct ReadFiles<'f, 's> {
     pub files: &'f [File<'s>],
@@ -65,8 +66,8 @@ impl<'f, 's> ReadFiles<'f, 's> {
     }
 }
 
-/// Drops the comments above the messages and terms of a tree. They make no difference to findings, and so the entries
-/// are those that an id stands for.
+/// Drops the comments above the messages and terms of a tree. They make no difference to findings,
+/// and so the entries are those that an id stands for.
 fn drop_comments(entries: &mut [Entry<&str>])
     ensures { map entry_of entries.new ≡ map uncommented (map entry_of entries.old) }
 {
@@ -89,8 +90,8 @@ fn drop_comment(entry: &mut Entry<&str>)
 /// Reads files, each once.
 ///
 /// # Errors
-/// [`AllocError`] if memory runs out, or a file nests so deep that reading it would take more of the machine's stack
-/// than this budget; nothing is kept.
+/// [`AllocError`] if memory runs out, or a file nests so deep that reading it would take more of
+/// the machine's stack than this budget; nothing is kept.
 pub fn read_files<'f, 's>(
     alloc: Global,
     files: &'f [File<'s>],

@@ -58,13 +58,14 @@ pub struct Report {
     pub has_failed: bool,
 }
 
-/// The report of a catalog: the findings of its files whose code isn't ignored, and whether one of them fails. With files
-/// of a reference, which it is translated from, also the messages that it lacks and the counts of files, which are of all
-/// findings; the functions that the reference calls are known then.
+/// The report of a catalog: the findings of its files whose code isn't ignored, and whether one of
+/// them fails. With files of a reference, which it is translated from, also the messages that it
+/// lacks and the counts of files, which are of all findings; the functions that the reference calls
+/// are known then.
 ///
 /// # Errors
-/// [`AllocError`] if memory runs out, or a file nests so deep that reading it would take more of the machine's stack
-/// than this budget; nothing is kept.
+/// [`AllocError`] if memory runs out, or a file nests so deep that reading it would take more of
+/// the machine's stack than this budget; nothing is kept.
 pub fn report_files<'s>(
     alloc: Global,
     options: &Options,

@@ -9,8 +9,8 @@ ghost use Rattle.fluent_lint.specs.Totals.{are_most_taken, counted, found_count,
 use lint_finding::{FileFindings, Finding, Severity};
 use std::alloc::AllocError;
 
-/// Appends how many findings there are in this many files: `2 errors, 9 warnings in 227 files`. Notes are counted if
-/// `notes` is true.
+/// Appends how many findings there are in this many files: `2 errors, 9 warnings in 227 files`.
+/// Notes are counted if `notes` is true.
 ///
 /// # Errors
 /// [`AllocError`] if memory runs out; a part of it may have been appended.

@@ -42,10 +42,11 @@ pub(crate) fn power_of_ten(exponent: usize) -> u64
     POWERS_OF_TEN[exponent]
 }
 
-/// An exact decimal number: a sign, a whole part below 2<sup>64</sup>, and a fraction of at most 18 digits.
+/// An exact decimal number: a sign, a whole part below 2<sup>64</sup>, and a fraction of at most 18
+/// digits.
 ///
-/// A contract sees it as an integer, the number of its units of 10<sup>-18</sup>. So zero has no sign, and two
-/// decimals are equal if they are the same number.
+/// A contract sees it as an integer, the number of its units of 10<sup>-18</sup>. So zero has no
+/// sign, and two decimals are equal if they are the same number.
 ///
 /// ```no_run
 /// let half = Decimal::from_parts(true, 2, 500_000_000_000_000_000).context("not a fraction")?;
@@ -86,8 +87,8 @@ impl Model for Decimal {
 }
 
 impl Decimal {
-    /// The decimal with this sign, this whole part, and this fraction in units of 10<sup>-18</sup>; so one half has the
-    /// fraction 500000000000000000. The sign of zero is dropped.
+    /// The decimal with this sign, this whole part, and this fraction in units of 10<sup>-18</sup>;
+    /// so one half has the fraction 500000000000000000. The sign of zero is dropped.
     ///
     /// It is `None` for a fraction of 10<sup>18</sup> or more, which is no part of one.
     pub fn from_parts(negative: bool, whole: u64, fraction: u64) -> Option<Self>

@@ -9,8 +9,8 @@ use crate::number::FluentNumber;
 use crate::options::FluentNumberOptions;
 
 impl FluentNumber {
-    /// The number that a signed integer of 128 bits is, with default options; `None` if its absolute value is above
-    /// 18446744073709551615, the greatest whole part.
+    /// The number that a signed integer of 128 bits is, with default options; `None` if its
+    /// absolute value is above 18446744073709551615, the greatest whole part.
     pub fn try_from_i128(n: i128) -> Option<Self>
         ensures some { IsSome result ↔ (unsigned_abs n < 2 ^ 64) }
         ensures value { IfSome result (λ number. number_of number ≡ number_from_integer n) }
@@ -19,8 +19,8 @@ impl FluentNumber {
         Some(integer(n < 0, magnitude))
     }
 
-    /// The number that an unsigned integer of 128 bits is, with default options; `None` if it is above
-    /// 18446744073709551615, the greatest whole part.
+    /// The number that an unsigned integer of 128 bits is, with default options; `None` if it is
+    /// above 18446744073709551615, the greatest whole part.
     pub fn try_from_u128(n: u128) -> Option<Self>
         ensures some { IsSome result ↔ (n < 2 ^ 64) }
         ensures value { IfSome result (λ number. number_of number ≡ number_from_integer (pos n)) }

@@ -16,8 +16,8 @@ pub fn reads_what_is_spelled()
     ensures { ReadsWhatIsSpelled }
 {}
 
-/// The text of a number is read as that number: of its options the count of digits shown after the point stays, and
-/// nothing is read if more than 18 are shown.
+/// The text of a number is read as that number: of its options the count of digits shown after the
+/// point stays, and nothing is read if more than 18 are shown.
 pub fn reads_its_text()
     ensures { ReadsItsText }
 {}
@@ -27,18 +27,20 @@ pub fn reads_again()
     ensures { ReadsAgain }
 {}
 
-/// The text of a number that was read is the text that was read, but for leading zeros, a plus, a point without digits
-/// before it, and the sign of zero.
+/// The text of a number that was read is the text that was read, but for leading zeros, a plus, a
+/// point without digits before it, and the sign of zero.
 pub fn writes_what_was_read()
     ensures { WritesWhatWasRead }
 {}
 
-/// The plural operands of a number are what the digits of its text say, of which at most 18 after the point count.
+/// The plural operands of a number are what the digits of its text say, of which at most 18 after
+/// the point count.
 pub fn operands_agree_with_text()
     ensures { OperandsAgreeWithText }
 {}
 
-/// Each signed integer becomes the number that it is, with default options, by value and by reference.
+/// Each signed integer becomes the number that it is, with default options, by value and by
+/// reference.
 pub fn signed_integers_become_their_numbers<'a>()
     ensures i8 { BecomesNumber ⟦<FluentNumber as From<i8>>⟧.from_gives (λ n. n) }
     ensures ref_i8 { BecomesNumber ⟦<FluentNumber as From<&'a i8>>⟧.from_gives (λ n. n.now) }
@@ -52,7 +54,8 @@ pub fn signed_integers_become_their_numbers<'a>()
     ensures ref_isize { BecomesNumber ⟦<FluentNumber as From<&'a isize>>⟧.from_gives (λ n. n.now) }
 {}
 
-/// Each unsigned integer becomes the number that it is, with default options, by value and by reference.
+/// Each unsigned integer becomes the number that it is, with default options, by value and by
+/// reference.
 pub fn unsigned_integers_become_their_numbers<'a>()
     ensures u8 { BecomesNumber ⟦<FluentNumber as From<u8>>⟧.from_gives (λ n. pos n) }
     ensures ref_u8 { BecomesNumber ⟦<FluentNumber as From<&'a u8>>⟧.from_gives (λ n. pos n.now) }
@@ -67,8 +70,8 @@ pub fn unsigned_integers_become_their_numbers<'a>()
         (λ n. pos n.now) }
 {}
 
-/// Each number becomes the integer of a signed type that is nearest to it once what is after its point is dropped, by
-/// value and by reference.
+/// Each number becomes the integer of a signed type that is nearest to it once what is after its
+/// point is dropped, by value and by reference.
 pub fn numbers_become_signed_integers<'a>()
     ensures i8 { BecomesSigned 8 ⟦<i8 as From<FluentNumber>>⟧.from_gives (λ n. n.value) }
     ensures ref_i8 { BecomesSigned 8 ⟦<i8 as From<&'a FluentNumber>>⟧.from_gives
@@ -90,8 +93,8 @@ pub fn numbers_become_signed_integers<'a>()
         (λ n. n.now.value) }
 {}
 
-/// Each number becomes the integer of an unsigned type that is nearest to it once what is after its point is dropped,
-/// by value and by reference.
+/// Each number becomes the integer of an unsigned type that is nearest to it once what is after its
+/// point is dropped, by value and by reference.
 pub fn numbers_become_unsigned_integers<'a>()
     ensures u8 { BecomesUnsigned 8 ⟦<u8 as From<FluentNumber>>⟧.from_gives (λ n. n.value) }
     ensures ref_u8 { BecomesUnsigned 8 ⟦<u8 as From<&'a FluentNumber>>⟧.from_gives
@@ -145,8 +148,8 @@ fn equality_of<T: Eq>()
     ensures { IsEquivalence T.eq }
 {}
 
-/// Decimals are equal if they are the same number, options if each of them is the same, with `currency` compared
-/// as a text, and numbers if value and options are.
+/// Decimals are equal if they are the same number, options if each of them is the same, with
+/// `currency` compared as a text, and numbers if value and options are.
 pub fn equal_values_look_the_same()
     ensures decimals { EqualWhereSeenSame ⟦<Decimal as PartialEq>⟧.eq (λ value. value) }
     ensures options { EqualWhereSeenSame ⟦<FluentNumberOptions as PartialEq>⟧.eq options_of }
@@ -161,7 +164,8 @@ pub fn equal_choices_are_the_same()
         ⟦<FluentNumberCurrencyDisplayStyle as PartialEq>⟧.eq (λ value. value) }
 {}
 
-/// Plural operands are equal if each of them is the same, categories and kinds of rules if they are the same.
+/// Plural operands are equal if each of them is the same, categories and kinds of rules if they are
+/// the same.
 pub fn equal_plurals_are_the_same()
     ensures operands { EqualWhereSeenSame ⟦<PluralOperands as PartialEq>⟧.eq (λ value. value) }
     ensures categories { EqualWhereSeenSame ⟦<PluralCategory as PartialEq>⟧.eq (λ value. value) }

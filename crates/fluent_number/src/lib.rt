@@ -1,8 +1,9 @@
 //! The numbers of Fluent: decimals with options, their texts and their plural operands.
 //!
-//! A [`Decimal`] is exact: a sign, a whole part and a fraction of 18 digits. A [`FluentNumber`] is a decimal with
-//! [`FluentNumberOptions`], which say how it is to be shown. `docs/reference/numbers.md` has the rules in plain words,
-//! and `specs/` the same rules as definitions, by which each contract is stated.
+//! A [`Decimal`] is exact: a sign, a whole part and a fraction of 18 digits. A [`FluentNumber`] is
+//! a decimal with [`FluentNumberOptions`], which say how it is to be shown.
+//! `docs/reference/numbers.md` has the rules in plain words, and `specs/` the same rules as
+//! definitions, by which each contract is stated.
 #![tactic(auto)]
 
 mod decimal;

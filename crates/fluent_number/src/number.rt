@@ -46,14 +46,15 @@ impl FluentNumber {
         Ok(FluentNumber::new(self.value, self.options.try_clone(alloc)?))
     }
 
-    /// The text of the number: a minus if it is negative, the whole part and, if there are any, a point and the digits
-    /// after it without zeros at the end.
+    /// The text of the number: a minus if it is negative, the whole part and, if there are any, a
+    /// point and the digits after it without zeros at the end.
     ///
-    /// If `minimum_fraction_digits` is set a point is always written, and zeros are added until this many digits
-    /// follow it.
+    /// If `minimum_fraction_digits` is set a point is always written, and zeros are added until
+    /// this many digits follow it.
     ///
     /// # Errors
-    /// [`AllocError`] if memory runs out; nothing is kept. A count that no memory holds is refused at once.
+    /// [`AllocError`] if memory runs out; nothing is kept. A count that no memory holds is refused
+    /// at once.
     #[tactic(auto, unfolding(crate::specs::Text::number_text))]
     pub fn as_string(&self, alloc: Global) -> Result<String, AllocError>
         ensures { IfOk result (λ text. string_bytes text ≡ number_text (number_of self.now)) }
@@ -64,9 +65,9 @@ impl FluentNumber {
 
 /// Reads a number: an optional sign, and digits with at most one point among them.
 ///
-/// At least one digit is needed, at most 18 may follow the point, and the whole part has to be below
-/// 2<sup>64</sup>. If there is a point, `minimum_fraction_digits` is the count of digits after it; all other options
-/// have their defaults. Every other text is [`NotANumber`].
+/// At least one digit is needed, at most 18 may follow the point, and the whole part has to be
+/// below 2<sup>64</sup>. If there is a point, `minimum_fraction_digits` is the count of digits
+/// after it; all other options have their defaults. Every other text is [`NotANumber`].
 impl FromStr for FluentNumber {
     type Err = NotANumber;
 

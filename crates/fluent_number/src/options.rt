@@ -94,8 +94,8 @@ impl From<&str> for FluentNumberCurrencyDisplayStyle {
 
 /// How a number is to be shown.
 ///
-/// Only `number_type` and `minimum_fraction_digits` have an effect in this crate; the other options are kept and compared,
-/// for formatters to look at.
+/// Only `number_type` and `minimum_fraction_digits` have an effect in this crate; the other options
+/// are kept and compared, for formatters to look at.
 ///
 /// ```no_run
 /// let mut options = FluentNumberOptions::default();
@@ -171,11 +171,13 @@ impl FluentNumberOptions {
         })
     }
 
-    /// Sets each option that the source has under its key: `type`, `style`, `currency`, `currencyDisplay` and
-    /// `useGrouping` by a text, `minimumIntegerDigits`, `minimumFractionDigits`, `maximumFractionDigits`,
-    /// `minimumSignificantDigits` and `maximumSignificantDigits` by a number, of which the whole part counts.
+    /// Sets each option that the source has under its key: `type`, `style`, `currency`,
+    /// `currencyDisplay` and `useGrouping` by a text, `minimumIntegerDigits`,
+    /// `minimumFractionDigits`, `maximumFractionDigits`, `minimumSignificantDigits` and
+    /// `maximumSignificantDigits` by a number, of which the whole part counts.
     ///
-    /// A key with no value or one of another kind changes nothing. Only the text of `currency` is allocated.
+    /// A key with no value or one of another kind changes nothing. Only the text of `currency` is
+    /// allocated.
     ///
     /// # Errors
     /// [`AllocError`] if memory runs out; the options are unchanged.

@@ -49,7 +49,8 @@ impl From<&FluentNumber> for PluralOperands {
     }
 }
 
-/// How many digits are shown after the point: at least the significant ones, and at most 18 for the count asked for.
+/// How many digits are shown after the point: at least the significant ones, and at most 18 for the
+/// count asked for.
 fn shown_digits(significant: usize, minimum: Option<usize>) -> usize
     ensures { result ≡ max significant (min (unwrap_or minimum 0) 18) }
 {
@@ -78,7 +79,8 @@ pub enum PluralCategory {
     OTHER,
 }
 
-/// Which rules: those for counts, as in "2 days", or those for places in an order, as in "the 2nd day".
+/// Which rules: those for counts, as in "2 days", or those for places in an order, as in "the 2nd
+/// day".
 ///
 /// ```
 /// polish.category(PluralRuleType::CARDINAL, &PluralOperands::from(count))
@@ -93,8 +95,9 @@ pub enum PluralRuleType {
 
 /// The category of a number in English, from its operands.
 ///
-/// Of counts, 1 shown without digits after the point is `one` and all else `other`. Of places, a whole number is `one`,
-/// `two` or `few` if its last digit is 1, 2 or 3 and its last two aren't 11, 12 or 13, and all else is `other`.
+/// Of counts, 1 shown without digits after the point is `one` and all else `other`. Of places, a
+/// whole number is `one`, `two` or `few` if its last digit is 1, 2 or 3 and its last two aren't 11,
+/// 12 or 13, and all else is `other`.
 pub fn english_category(rule: PluralRuleType, operands: &PluralOperands) -> PluralCategory
     ensures { result ≡ english rule operands.now }
 {

@@ -4,8 +4,8 @@ ghost use Rattle.fluent_number.specs.Number.{Number, number_of};
 
 use crate::number::FluentNumber;
 
-/// Where [`merge`](crate::FluentNumberOptions::merge) finds options: values under keys, of which it looks at texts and
-/// at numbers.
+/// Where [`merge`](crate::FluentNumberOptions::merge) finds options: values under keys, of which it
+/// looks at texts and at numbers.
 ///
 /// ```no_run
 /// wanted.set("minimumFractionDigits", 2_u8)?;

@@ -1,5 +1,5 @@
-//! The integers of Rust from numbers: what is after the point is dropped, and what a type can't hold becomes its
-//! nearest end.
+//! The integers of Rust from numbers: what is after the point is dropped, and what a type can't
+//! hold becomes its nearest end.
 
 ghost use Rattle.std.specs.Prelude.{◌≡◌, ◌≤ℤ◌};
 ghost use Rattle.fluent_number.specs.Conversion.{integer_within, signed_of, unsigned_of};

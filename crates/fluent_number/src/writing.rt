@@ -20,7 +20,8 @@ pub(crate) fn text_of(
     let whole = buffer.format(value.whole());
     let (count, digits) = significant_digits(value.fraction());
 
-    // All the room is asked for here: a count that no memory holds is refused before a zero is written.
+    // All the room is asked for here: a count that no memory holds is refused before a zero is
+    // written.
     let shown = count.max(least.unwrap_or(0));
     let mut text = String::with_capacity(alloc, (whole.len() + 2).saturating_add(shown))?;
     push_minus(&mut text, value)?;
@@ -59,7 +60,8 @@ fn push_point_and(
     push_zeros(text, least.unwrap_or(0).saturating_sub(count))
 }
 
-/// How many digits of a fraction are left without the zeros at its end, and the number that they write.
+/// How many digits of a fraction are left without the zeros at its end, and the number that they
+/// write.
 pub(crate) fn significant_digits(fraction: u64) -> (usize, u64)
     requires { fraction < 10 ^ 18 }
     ensures digits { last_digits result.0 result.1 ≡ without_end_zeros (last_digits 18 fraction) }

@@ -45,7 +45,8 @@ struct Layout<'a> {
 impl LocaleNumerals {
     /// How the locale of a tag writes numbers, or `None` if CLDR doesn't know its language.
     ///
-    /// Of the tags of the table, the longest one that the text begins with counts, part by part and in letters of either case.
+    /// Of the tags of the table, the longest one that the text begins with counts, part by part and
+    /// in letters of either case.
     pub fn for_tag(tag: &str) -> Option<Self>
         ensures { option_map locale_view result ≡ locale_for tag.now }
     {

@@ -36,8 +36,8 @@ pub(crate) struct Parts {
     pub(crate) least: usize,
 }
 
-/// What is shown of a decimal, where a style shows ten to the power of `places` units as one, and usually from `least` to
-/// `most` digits after the point.
+/// What is shown of a decimal, where a style shows ten to the power of `places` units as one, and
+/// usually from `least` to `most` digits after the point.
 ///
 /// A whole number needs no division: it is rounded to itself.
 pub(crate) fn shown_parts(
@@ -102,8 +102,8 @@ pub(crate) fn least_integer_digits(options: &FluentNumberOptions) -> usize
         .min(MOST_INTEGER_DIGITS)
 }
 
-/// What is shown of this many units, of which ten to the power of `places` are one, where a style usually shows from `least` to
-/// `most` digits after the point.
+/// What is shown of this many units, of which ten to the power of `places` are one, where a style
+/// usually shows from `least` to `most` digits after the point.
 fn shown_digits(
     units: u128,
     places: usize,
@@ -143,7 +143,8 @@ fn by_fraction_digits(
     }
 }
 
-/// How many digits there are after the point at least and at most, where a style usually shows from `least` to `most`.
+/// How many digits there are after the point at least and at most, where a style usually shows from
+/// `least` to `most`.
 fn fraction_counts(least: usize, most: usize, options: &FluentNumberOptions) -> (usize, usize)
     ensures least { result.0 ≡ least_fraction_digits least most (options_of options.now) }
     ensures most { result.1 ≡ most_fraction_digits least most (options_of options.now) }
@@ -156,8 +157,9 @@ fn fraction_counts(least: usize, most: usize, options: &FluentNumberOptions) -> 
     (asked.unwrap_or(least).min(most), most)
 }
 
-/// The least count of digits after the point that is asked for. Of a style with a fixed count it counts only together with a
-/// greatest one, since a number that was written with digits there has one by itself.
+/// The least count of digits after the point that is asked for. Of a style with a fixed count it
+/// counts only together with a greatest one, since a number that was written with digits there has
+/// one by itself.
 fn asked_least(least: usize, most: usize, options: &FluentNumberOptions) -> Option<usize>
     ensures { result ≡ asked_least least most (options_of options.now) }
 {
@@ -212,7 +214,8 @@ fn digit_count(n: u128) -> usize
     buffer.format(n).len()
 }
 
-/// Ten to a power of at most 38. It isn't computed for the places of numbers, or for those that are mostly rounded away.
+/// Ten to a power of at most 38. It isn't computed for the places of numbers, or for those that are
+/// mostly rounded away.
 fn power_of_ten(exponent: usize) -> u128
     requires { exponent ≤ 38 }
     ensures value { result ≡ 10 ^ exponent }
@@ -247,7 +250,8 @@ fn split_at_point(units: u128, places: usize) -> (u128, u64)
     (units / one, (units % one) as u64)
 }
 
-/// The first of this many digits of a number, as an ASCII byte, and the number that the others write.
+/// The first of this many digits of a number, as an ASCII byte, and the number that the others
+/// write.
 pub(crate) fn first_digit(number: u64, count: usize) -> (u8, u64)
     requires some { 0 < count }
     requires few { count ≤ 18 }

@@ -16,7 +16,8 @@ use std::alloc::{AllocError, Global};
 pub struct Collected<S> {
     body: Vec<Entry<S>>,
     errors: Vec<ParserError>,
-    /// The last part, if it is a comment of one sign: the message or the term right after it takes it.
+    /// The last part, if it is a comment of one sign: the message or the term right after it takes
+    /// it.
     comment: Option<Comment<S>>,
 }
 
@@ -39,7 +40,8 @@ impl<S: Drop> Collected<S> {
     /// Puts junk after the other entries, and its error after the other errors.
     ///
     /// # Errors
-    /// [`AllocError`] if memory runs out; the errors are unchanged, and the junk may be there without one.
+    /// [`AllocError`] if memory runs out; the errors are unchanged, and the junk may be there
+    /// without one.
     pub fn push_junk(&mut self, content: S, error: ParserError) -> Result<(), AllocError>
         ensures body { OnOk result (Appends S self.old self.new
             (λ text_of held. waiting held ++ junk (text_of content) ∷ [])) }
@@ -101,7 +103,8 @@ impl<S: Drop> Collected<S> {
         Ok(())
     }
 
-    /// Makes room for a message or a term. A comment from above a blank line doesn't wait for it, and becomes an entry.
+    /// Makes room for a message or a term. A comment from above a blank line doesn't wait for it,
+    /// and becomes an entry.
     fn make_room(&mut self, apart: bool) -> Result<(), AllocError>
         ensures body { OnOk result (Appends S self.old self.new
             (λ text_of held. left_alone held apart)) }
@@ -134,7 +137,8 @@ impl<S: Drop> Collected<S> {
     /// The tree.
     ///
     /// # Errors
-    /// [`Error::Memory`] if memory runs out; nothing is kept. [`Error::Broken`] with the tree if there are errors.
+    /// [`Error::Memory`] if memory runs out; nothing is kept. [`Error::Broken`] with the tree if
+    /// there are errors.
     pub fn finish(mut self) -> Result<Resource<S>, Error<S>>
         ensures tree { (text_of : S → List ℕ) → HasTree S text_of result
             (entries_with S text_of self []) }

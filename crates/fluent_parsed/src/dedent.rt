@@ -10,7 +10,8 @@ use fluent_text::Texts;
 use fluent_tokens as words;
 use std::alloc::{AllocError, Global};
 
-/// Takes the common indent off all texts that begin lines. `begins_line` says whether the first element does.
+/// Takes the common indent off all texts that begin lines. `begins_line` says whether the first
+/// element does.
 ///
 /// # Errors
 /// [`AllocError`] if memory runs out; some of the texts may have lost their indent.
@@ -31,7 +32,8 @@ pub fn dedent_all<S: Drop, T: Texts<S>>(
     Ok(())
 }
 
-/// Takes its part of the common indent off a text that begins a line, and says whether a line begins after the element.
+/// Takes its part of the common indent off a text that begins a line, and says whether a line
+/// begins after the element.
 fn dedent<S: Drop, T: Texts<S>>(
     alloc: Global,
     texts: &T,

@@ -13,8 +13,8 @@ use fluent_ast::{Pattern, PatternElement};
 use fluent_text::Texts;
 use std::alloc::{AllocError, Global};
 
-/// The elements of a pattern that were read so far, whose common indent was told beforehand. A text that begins a line has
-/// lost it already, so that no text is cut twice.
+/// The elements of a pattern that were read so far, whose common indent was told beforehand. A text
+/// that begins a line has lost it already, so that no text is cut twice.
 #[derive(Drop)]
 pub struct DedentedElements<S> {
     pub elements: Vec<PatternElement<S>>,
@@ -68,8 +68,8 @@ impl<S: Drop> DedentedElements<S> {
         Ok(())
     }
 
-    /// The pattern that the elements give, or none if nothing but blank was read, or if they share another indent than was
-    /// told.
+    /// The pattern that the elements give, or none if nothing but blank was read, or if they share
+    /// another indent than was told.
     pub fn finish<T: Texts<S>>(self, texts: &T) -> Option<Pattern<S>>
         ensures common_indent { IfSome result (λ p. self.common_indent ≡ Some self.told) }
         ensures value { IfSome result (λ p. Some (pattern_view S T.text p)

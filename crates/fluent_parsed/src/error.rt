@@ -18,12 +18,13 @@ use std::fmt;
 /// ```
 #[derive(Debug, PartialEq, Eq, Drop)]
 pub enum Error<S> {
-    /// Parts of the source are no entries. The tree has them as junk, and each junk has one error, in the same order.
+    /// Parts of the source are no entries. The tree has them as junk, and each junk has one error,
+    /// in the same order.
     Broken(Resource<S>, Vec<ParserError>),
     /// Memory ran out. Nothing of the tree is left.
     ///
-    /// This also means that placeables, calls and selects are nested so deep that reading them would take more than the
-    /// budget of the machine's stack.
+    /// This also means that placeables, calls and selects are nested so deep that reading them
+    /// would take more than the budget of the machine's stack.
     Memory,
 }
 

@@ -51,7 +51,8 @@ pub enum ErrorKind {
     MessageReferenceAsSelector,
     /// A term without attribute is the selector of a select.
     TermReferenceAsSelector,
-    /// An attribute of a message is the selector of a select. It may be one: no source has this error.
+    /// An attribute of a message is the selector of a select. It may be one: no source has this
+    /// error.
     MessageAttributeAsSelector,
     /// An attribute of a term is a placeable of its own.
     TermAttributeAsPlaceable,

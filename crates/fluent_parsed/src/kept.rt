@@ -1,4 +1,5 @@
-//! Where the elements of a pattern end: blank ones at its end are dropped, and its last text is trimmed.
+//! Where the elements of a pattern end: blank ones at its end are dropped, and its last text is
+//! trimmed.
 #![tactic(auto)]
 
 ghost use Rattle.std.specs.Prelude.{◌≡◌, ◌≤◌, length, take};

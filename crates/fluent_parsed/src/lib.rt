@@ -1,10 +1,12 @@
 //! What reading a source gives: its tree or its errors, and how they are collected part by part.
 //!
-//! [`ParserError`] is one error of a source, with its place. [`Error`] is what stands in the place of a tree that has errors, and
-//! [`Collected`] is what a reader has put together so far. The reader itself is `fluent_parser`, above this crate.
+//! [`ParserError`] is one error of a source, with its place. [`Error`] is what stands in the place
+//! of a tree that has errors, and [`Collected`] is what a reader has put together so far. The
+//! reader itself is `fluent_parser`, above this crate.
 //!
-//! [`IndentedElements`] takes the elements of a pattern one by one, each text at the start of a line with its indent, and gives the
-//! pattern once the common indent is known. [`DedentedElements`] takes them without it, if it is known beforehand.
+//! [`IndentedElements`] takes the elements of a pattern one by one, each text at the start of a
+//! line with its indent, and gives the pattern once the common indent is known.
+//! [`DedentedElements`] takes them without it, if it is known beforehand.
 #![tactic(auto)]
 
 pub mod collected;

@@ -5,7 +5,8 @@ ghost use Rattle.std.specs.Prelude.{◌≡◌, ◌++◌, ◌∷◌, [], OnOk};
 
 use std::alloc::AllocError;
 
-/// Puts an item after the others of a list. The first one makes room for as many as most such lists hold.
+/// Puts an item after the others of a list. The first one makes room for as many as most such lists
+/// hold.
 ///
 /// # Errors
 /// [`AllocError`] if memory runs out; the list is unchanged, and the item is dropped.

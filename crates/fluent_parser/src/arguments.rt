@@ -40,9 +40,9 @@ impl<'p, S: Drop, T: Texts<S>> Parser<'p, S, T> {
     /// The arguments of a call, from the opening parenthesis on. Production `CallArguments`.
     ///
     /// # Errors
-    /// [`Fault::Refused`] if these are no arguments of a call; the parser then stands at the place of the refusal.
-    /// [`Fault::Memory`] if memory runs out.
-    /// [`Fault::TooDeep`] if what is there nests past the budget of the stack.
+    /// [`Fault::Refused`] if these are no arguments of a call; the parser then stands at the place
+    /// of the refusal. [`Fault::Memory`] if memory runs out. [`Fault::TooDeep`] if what is there
+    /// nests past the budget of the stack.
     #[cycle(parser)]
     pub fn get_call_arguments(&mut self) -> Result<CallArguments<S>, Fault>
         requires parenthesis { w.begins_with w.open_paren self.old.rest.now ≡ true }

@@ -36,12 +36,12 @@ impl<'p, S: Drop, T: Texts<S>> Parser<'p, S, T> {
     ghost use Rattle.fluent_grammar.specs.Reading.{comment_line_at, comment_at};
     ghost use Rattle.fluent_parser.specs.Entries.{line_of, comment_content_by};
 
-    /// A comment with all its lines, from its first sign on. Productions `CommentLine`, `GroupComment` and
-    /// `ResourceComment`.
+    /// A comment with all its lines, from its first sign on. Productions `CommentLine`,
+    /// `GroupComment` and `ResourceComment`.
     ///
     /// # Errors
-    /// [`Fault::Refused`] if its first line is no line of a comment; the parser then stands at the place of the refusal.
-    /// [`Fault::Memory`] if memory runs out.
+    /// [`Fault::Refused`] if its first line is no line of a comment; the parser then stands at the
+    /// place of the refusal. [`Fault::Memory`] if memory runs out.
     pub fn get_comment(&mut self) -> Result<Entry<S>, Fault>
         requires sign { w.begins_with w.number_sign self.old.rest.now ≡ true }
         ensures gives { Reads (entry_view S T.text) self.old self.new result comment_at }
@@ -96,7 +96,8 @@ impl<'p, S: Drop, T: Texts<S>> Parser<'p, S, T> {
         Ok(())
     }
 
-    /// What stands after the sign of a comment's line. None at the end of the text, where a sign adds no line.
+    /// What stands after the sign of a comment's line. None at the end of the text, where a sign
+    /// adds no line.
     #[inline(always)]
     fn get_comment_line(&mut self) -> Result<Option<S>, Fault>
         ensures gives { Reads (line_of T.text) self.old self.new result comment_line_at }

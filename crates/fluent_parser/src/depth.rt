@@ -38,15 +38,17 @@ impl fmt::Display for TooDeep {
 
 impl std::error::Error for TooDeep {}
 
-/// As [`parse_within`](crate::parse_within), and it tells a source that nests too deep from want of memory.
+/// As [`parse_within`](crate::parse_within), and it tells a source that nests too deep from want of
+/// memory.
 ///
-/// What stands open inside each other at one place of a pattern takes the bytes that [`reading`] has: placeables, the
-/// arguments of calls, and the variants of selects. What is closed takes none, so no number of them side by side is too
-/// deep, and neither is what stands in other messages and terms.
+/// What stands open inside each other at one place of a pattern takes the bytes that [`reading`]
+/// has: placeables, the arguments of calls, and the variants of selects. What is closed takes none,
+/// so no number of them side by side is too deep, and neither is what stands in other messages and
+/// terms.
 ///
 /// # Errors
-/// [`TooDeep`] only if a pattern of the source takes more bytes at some place than the budget has; nothing is kept. The
-/// errors of [`parse`](crate::parse) are in what was read.
+/// [`TooDeep`] only if a pattern of the source takes more bytes at some place than the budget has;
+/// nothing is kept. The errors of [`parse`](crate::parse) are in what was read.
 ///
 /// [`reading`]: fluent_text::stack::reading
 pub fn parse_unless_too_deep<'s, S: Slice<'s>>(
@@ -68,8 +70,8 @@ pub fn parse_unless_too_deep<'s, S: Slice<'s>>(
     }
 }
 
-/// As [`parse_runtime_within`](crate::parse_runtime_within), and it tells a source that nests too deep from want of
-/// memory.
+/// As [`parse_runtime_within`](crate::parse_runtime_within), and it tells a source that nests too
+/// deep from want of memory.
 ///
 /// # Errors
 /// Those of [`parse_unless_too_deep`].

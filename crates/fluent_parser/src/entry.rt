@@ -31,9 +31,9 @@ impl<'p, S: Drop, T: Texts<S>> Parser<'p, S, T> {
     /// What begins here, told by its first byte. Production `Entry`.
     ///
     /// # Errors
-    /// [`Fault::Refused`] if no entry stands here; the parser then stands at the place of the refusal.
-    /// [`Fault::Memory`] if memory runs out.
-    /// [`Fault::TooDeep`] if what is there nests past the budget of the stack.
+    /// [`Fault::Refused`] if no entry stands here; the parser then stands at the place of the
+    /// refusal. [`Fault::Memory`] if memory runs out. [`Fault::TooDeep`] if what is there nests
+    /// past the budget of the stack.
     #[tactic(auto, using(crate::proofs::Failing::handed), unfolding(fluent_grammar::specs::Reading::entry_at))]
     pub fn get_entry(&mut self) -> Result<Entry<S>, Fault>
         ensures gives { Reads (entry_view S T.text) self.old self.new result entry_at }
@@ -132,7 +132,8 @@ impl<'p, S: Drop, T: Texts<S>> Parser<'p, S, T> {
         Ok(Head { id, value })
     }
 
-    /// The value of a message, a term or an attribute, if it has one. What a refused one left open is closed.
+    /// The value of a message, a term or an attribute, if it has one. What a refused one left open
+    /// is closed.
     #[inline(always)]
     fn get_value(&mut self) -> Result<Option<Pattern<S>>, Fault>
         ensures gives { Reads (option_map (pattern_view S T.text)) self.old self.new result
@@ -160,7 +161,8 @@ impl<'p, S: Drop, T: Texts<S>> Parser<'p, S, T> {
         Ok(attributes)
     }
 
-    /// The attribute of this line. None where none can be read: the parser then stands where it stood.
+    /// The attribute of this line. None where none can be read: the parser then stands where it
+    /// stood.
     #[tactic(auto, using(crate::proofs::Failing::handed, fluent_tokens::proofs::Counted::cuts), unfolding(crate::specs::Entries::next_attribute_by))]
     fn next_attribute(&mut self) -> Result<Option<Attribute<S>>, Fault>
         ensures gives { Reads (option_map (attribute_view S T.text)) self.old self.new result
@@ -195,8 +197,8 @@ impl<'p, S: Drop, T: Texts<S>> Parser<'p, S, T> {
     /// Production `Attribute`, from the start of its line on.
     ///
     /// # Errors
-    /// [`Fault`] if no attribute is there, memory runs out, or the value nests past the budget of the stack; the parser
-    /// then stands where reading stopped.
+    /// [`Fault`] if no attribute is there, memory runs out, or the value nests past the budget of
+    /// the stack; the parser then stands where reading stopped.
     #[tactic(auto, using(crate::proofs::Failing::handed, fluent_tokens::proofs::Counted::cuts), unfolding(crate::specs::Entries::attribute_by))]
     pub fn get_attribute(&mut self) -> Result<Attribute<S>, Fault>
         requires dot { w.begins_with w.dot (w.skip_spaces self.old.rest.now) ≡ true }

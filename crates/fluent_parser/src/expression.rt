@@ -48,7 +48,8 @@ impl<'p, S: Drop, T: Texts<S>> Parser<'p, S, T> {
     /// Passes over the opening brace of a placeable and the blank after it.
     ///
     /// # Errors
-    /// [`Fault::TooDeep`] if a placeable is more than is left of the budget of the stack; nothing is opened.
+    /// [`Fault::TooDeep`] if a placeable is more than is left of the budget of the stack; nothing
+    /// is opened.
     pub fn open_placeable(&mut self) -> Result<(), Fault>
         requires brace { w.begins_with w.open_brace self.old.rest.now ≡ true }
         ensures rest { self.new.rest.now ≡ w.skip_blank (drop 1 self.old.rest.now) }
@@ -64,8 +65,8 @@ impl<'p, S: Drop, T: Texts<S>> Parser<'p, S, T> {
         self.open(reading::PLACEABLE)
     }
 
-    /// A placeable in an expression, from its opening brace on. Production `inline_placeable`. Little is kept in its
-    /// frame of the stack: placeables nest.
+    /// A placeable in an expression, from its opening brace on. Production `inline_placeable`.
+    /// Little is kept in its frame of the stack: placeables nest.
     #[cycle(parser)]
     #[tactic(auto, using(crate::proofs::Failing::handed, crate::proofs::Steps::placeable_read, crate::proofs::Steps::placeable_fails, crate::proofs::Steps::select_fails))]
     #[inline(always)]
@@ -109,8 +110,8 @@ impl<'p, S: Drop, T: Texts<S>> Parser<'p, S, T> {
     /// The expression of a placeable, whose closing brace has to stand here.
     ///
     /// # Errors
-    /// [`Fault::Refused`] if another byte stands here, after blank; the parser then stands before it.
-    /// [`Fault::Memory`] if memory runs out.
+    /// [`Fault::Refused`] if another byte stands here, after blank; the parser then stands before
+    /// it. [`Fault::Memory`] if memory runs out.
     #[inline(always)]
     pub fn close_placeable(
         &mut self,
@@ -135,9 +136,8 @@ impl<'p, S: Drop, T: Texts<S>> Parser<'p, S, T> {
     /// The variants of a select over this selector, or none if no arrow follows.
     ///
     /// # Errors
-    /// [`Fault::Refused`] if what follows is no select, or the selector can't stand alone; the parser then stands at the
-    /// place of the refusal.
-    /// [`Fault::Memory`] if memory runs out.
+    /// [`Fault::Refused`] if what follows is no select, or the selector can't stand alone; the
+    /// parser then stands at the place of the refusal. [`Fault::Memory`] if memory runs out.
     /// [`Fault::TooDeep`] if what is there nests past the budget of the stack.
     #[cycle(parser)]
     #[tactic(auto, using(crate::proofs::Failing::handed, fluent_tokens::proofs::Counted::cuts), unfolding(fluent_grammar::specs::Reading::select_or_inline_at))]
@@ -207,9 +207,9 @@ impl<'p, S: Drop, T: Texts<S>> Parser<'p, S, T> {
     /// An inline expression. Production `InlineExpression`.
     ///
     /// # Errors
-    /// [`Fault::Refused`] if no inline expression stands here; the parser then stands at the place of the refusal.
-    /// [`Fault::Memory`] if memory runs out.
-    /// [`Fault::TooDeep`] if what is there nests past the budget of the stack.
+    /// [`Fault::Refused`] if no inline expression stands here; the parser then stands at the place
+    /// of the refusal. [`Fault::Memory`] if memory runs out. [`Fault::TooDeep`] if what is there
+    /// nests past the budget of the stack.
     #[cycle(parser)]
     pub fn get_inline_expression(&mut self) -> Result<InlineExpression<S>, Fault>
         ensures gives { Reads (inline_view S T.text) self.old self.new result whole.inline }
@@ -294,8 +294,8 @@ impl<'p, S: Drop, T: Texts<S>> Parser<'p, S, T> {
     /// A string or a number. Productions `StringLiteral` and `NumberLiteral`.
     ///
     /// # Errors
-    /// [`Fault::Refused`] if no literal stands here; the parser then stands at the place of the refusal.
-    /// [`Fault::Memory`] if memory runs out.
+    /// [`Fault::Refused`] if no literal stands here; the parser then stands at the place of the
+    /// refusal. [`Fault::Memory`] if memory runs out.
     pub fn get_literal(&mut self) -> Result<InlineExpression<S>, Fault>
         ensures gives { Reads (inline_view S T.text) self.old self.new result string_or_number_at }
         ensures shallow { IsShallow result }

@@ -1,7 +1,8 @@
 //! Reading a source into its tree.
 //!
-//! [`parse`] reads everything, [`parse_runtime`] passes comments over. What a source says is defined in
-//! `fluent_grammar`; `docs/reference/grammar.md` has it in words. Offsets and lengths are in bytes.
+//! [`parse`] reads everything, [`parse_runtime`] passes comments over. What a source says is
+//! defined in `fluent_grammar`; `docs/reference/grammar.md` has it in words. Offsets and lengths
+//! are in bytes.
 #![tactic(auto)]
 
 mod arguments;
@@ -39,11 +40,11 @@ use std::alloc::Global;
 
 /// The tree of a source, with its comments.
 ///
-/// Each stretch of the source that isn't an entry, a blank line or a comment becomes junk in the tree, up to the next
-/// line that may begin an entry, and has one error.
+/// Each stretch of the source that isn't an entry, a blank line or a comment becomes junk in the
+/// tree, up to the next line that may begin an entry, and has one error.
 ///
-/// A comment of one `#` becomes the comment of the message or the term right below it, if no blank line lies between.
-/// The grammar is that of Fluent Syntax 1.0, production `Resource`.
+/// A comment of one `#` becomes the comment of the message or the term right below it, if no blank
+/// line lies between. The grammar is that of Fluent Syntax 1.0, production `Resource`.
 ///
 /// ```
 /// match parse(alloc, source) {
@@ -56,10 +57,11 @@ use std::alloc::Global;
 /// It is [`parse_within`] the budget of a program, [`StackBudget::PROGRAM`].
 ///
 /// # Errors
-/// - [`Error::Broken`] if there is junk, with the whole tree and the errors in the order of their places, which are
-///   bytes of the source.
-/// - [`Error::Memory`] if memory runs out; nothing is kept. It also means that placeables, calls and selects are
-///   nested so deep that reading them would take more than the budget of the machine's stack.
+/// - [`Error::Broken`] if there is junk, with the whole tree and the errors in the order of their
+///   places, which are bytes of the source.
+/// - [`Error::Memory`] if memory runs out; nothing is kept. It also means that placeables, calls
+///   and selects are nested so deep that reading them would take more than the budget of the
+///   machine's stack.
 pub fn parse<'s, S: Slice<'s>>(alloc: Global, input: S) -> Result<S>
     ensures tree { HasTree S S.text result (tree (S.text input)) }
     ensures errors { HasErrors S result (map error_told (errors (S.text input))) }
@@ -87,15 +89,17 @@ pub fn parse_within<'s, S: Slice<'s>>(alloc: Global, input: S, budget: StackBudg
 
 /// The messages and the terms of a source, and its junk, for use at run time.
 ///
-/// It reads as [`parse`] does, but for comments: a line that begins with `#` where an entry may begin is passed over,
-/// whatever follows the sign. So no entry has a comment.
+/// It reads as [`parse`] does, but for comments: a line that begins with `#` where an entry may
+/// begin is passed over, whatever follows the sign. So no entry has a comment.
 ///
 /// It is [`parse_runtime_within`] the budget of a program, [`StackBudget::PROGRAM`].
 ///
 /// # Errors
-/// - [`Error::Broken`] if there is junk, with the whole tree and the errors in the order of their places.
-/// - [`Error::Memory`] if memory runs out; nothing is kept. It also means that placeables, calls and selects are
-///   nested so deep that reading them would take more than the budget of the machine's stack.
+/// - [`Error::Broken`] if there is junk, with the whole tree and the errors in the order of their
+///   places.
+/// - [`Error::Memory`] if memory runs out; nothing is kept. It also means that placeables, calls
+///   and selects are nested so deep that reading them would take more than the budget of the
+///   machine's stack.
 pub fn parse_runtime<'s, S: Slice<'s>>(alloc: Global, input: S) -> Result<S>
     ensures tree { HasTree S S.text result (runtime_tree (S.text input)) }
     ensures errors { HasErrors S result (map error_told (runtime_errors (S.text input))) }

@@ -51,8 +51,8 @@ pub fn behind<'a>(text: &'a str, count: usize) -> &'a str
 impl<'p, S: Drop, T: Texts<S>> Parser<'p, S, T> {
     ghost use Rattle.fluent_parser.specs.Frame.{Advances, StartsLine, Stays};
 
-    /// A parser before a whole source, whose text has these lines. Within a message or a term it opens no more than the
-    /// budget has.
+    /// A parser before a whole source, whose text has these lines. Within a message or a term it
+    /// opens no more than the budget has.
     pub fn new(
         alloc: Global,
         texts: &'p T,
@@ -169,7 +169,8 @@ impl<'p, S: Drop, T: Texts<S>> Parser<'p, S, T> {
         self.lines.line_len(place)
     }
 
-    /// How many bytes stand before the next line after this one that may begin an entry: all, where there is none.
+    /// How many bytes stand before the next line after this one that may begin an entry: all, where
+    /// there is none.
     pub fn next_entry(&mut self) -> usize
         ensures value { drop result self.old.rest.now ≡ resume false self.old.rest.now }
         ensures cuts { Cuts self.old.rest.now result }
@@ -212,7 +213,8 @@ impl<'p, S: Drop, T: Texts<S>> Parser<'p, S, T> {
         self.lines.one_line_len(place)
     }
 
-    /// What the rows say of the pattern here, after the spaces before it: see `plain_lines` of `fluent_tokens`.
+    /// What the rows say of the pattern here, after the spaces before it: see `plain_lines` of
+    /// `fluent_tokens`.
     pub fn plain_lines(&mut self) -> Option<PlainLines>
         ensures stays { Stays self.old self.new }
     {
@@ -220,8 +222,8 @@ impl<'p, S: Drop, T: Texts<S>> Parser<'p, S, T> {
         self.lines.plain_lines(place)
     }
 
-    /// The line that starts here, if it is plain and a pattern goes on with a text in it: see `plain_line` of
-    /// `fluent_tokens`.
+    /// The line that starts here, if it is plain and a pattern goes on with a text in it: see
+    /// `plain_line` of `fluent_tokens`.
     pub fn plain_line(&mut self) -> Option<PlainLine>
         requires { StartsLine true self.old.text.now self.old.rest.now }
         ensures line { IfSome result (IsPlainLine self.old.rest.now) }

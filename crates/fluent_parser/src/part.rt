@@ -20,9 +20,10 @@ impl<'p, S: Drop, T: Texts<S>> Parser<'p, S, T> {
     ghost use Rattle.fluent_parser.specs.Parts.{next_piece, behind_piece};
     ghost use Rattle.fluent_parsed.specs.Collected.{TakesEntries, TakesErrors};
 
-    /// Reads the part that begins here, and puts it after those that were collected. `apart` says whether a blank line
-    /// stands before it. After a refused entry, reading goes on at the first place that may begin another: at or after
-    /// the place of the refusal, at column 0, before a letter, `-` or `#`.
+    /// Reads the part that begins here, and puts it after those that were collected. `apart` says
+    /// whether a blank line stands before it. After a refused entry, reading goes on at the first
+    /// place that may begin another: at or after the place of the refusal, at column 0, before a
+    /// letter, `-` or `#`.
     ///
     /// # Errors
     /// [`Halt::Memory`] if memory runs out; the part may be there without its error.
@@ -77,8 +78,8 @@ impl<'p, S: Drop, T: Texts<S>> Parser<'p, S, T> {
         self.advance(count);
     }
 
-    /// How many bytes stand before the next place at column 0 that may begin an entry: all, where there is none. The parser
-    /// stands at column 0 or not.
+    /// How many bytes stand before the next place at column 0 that may begin an entry: all, where
+    /// there is none. The parser stands at column 0 or not.
     #[tactic(auto, using(crate::proofs::EntryStarts::resume_here, crate::proofs::EntryStarts::resume_later, fluent_tokens::proofs::Counted::cuts))]
     fn entry_start(&mut self, at_column_zero: bool) -> usize
         ensures value { drop result self.old.rest.now ≡ resume at_column_zero self.old.rest.now }
@@ -93,8 +94,8 @@ impl<'p, S: Drop, T: Texts<S>> Parser<'p, S, T> {
     }
 }
 
-/// The error of an entry from `start` on that was refused at `place`, with junk up to `end`. A message or a term with
-/// nothing to hold is shown whole.
+/// The error of an entry from `start` on that was refused at `place`, with junk up to `end`. A
+/// message or a term with nothing to hold is shown whole.
 fn error_at(kind: ErrorKind, start: usize, place: usize, end: usize) -> ParserError
     requires { place < 2 ^ 64 - 1 }
     ensures { error_view result ≡ error_by (kind_view kind) start place end }

@@ -19,7 +19,8 @@ use fluent_parsed::{ErrorKind, IndentedElements, is_blank_text};
 use fluent_text::Texts;
 use fluent_tokens as words;
 
-/// What a text says of the common indent, after so many spaces at a line start or within a line: nothing where it is blank.
+/// What a text says of the common indent, after so many spaces at a line start or within a line:
+/// nothing where it is blank.
 pub fn said_by(at_line_start: bool, indent: usize, text: &[u8]) -> Option<usize>
     ensures { result ≡ indent_of (text_piece at_line_start indent text.now) }
 {
@@ -47,9 +48,9 @@ impl<'p, S: Drop, T: Texts<S>> Parser<'p, S, T> {
     /// A pattern, or none where nothing but blank stands. Production `Pattern`.
     ///
     /// # Errors
-    /// [`Fault::Refused`] if a piece of the pattern is refused; the parser then stands at the place of the refusal.
-    /// [`Fault::Memory`] if memory runs out.
-    /// [`Fault::TooDeep`] if what is there nests past the budget of the stack.
+    /// [`Fault::Refused`] if a piece of the pattern is refused; the parser then stands at the place
+    /// of the refusal. [`Fault::Memory`] if memory runs out. [`Fault::TooDeep`] if what is there
+    /// nests past the budget of the stack.
     #[cycle(parser)]
     pub fn get_pattern(&mut self) -> Result<Option<Pattern<S>>, Fault>
         ensures gives { Reads (option_map (pattern_view S T.text)) self.old self.new result
@@ -64,7 +65,8 @@ impl<'p, S: Drop, T: Texts<S>> Parser<'p, S, T> {
         self.get_lines()
     }
 
-    /// A pattern of one line, whose text has so many bytes with its line feed. Most patterns are such.
+    /// A pattern of one line, whose text has so many bytes with its line feed. Most patterns are
+    /// such.
     fn get_one_line(&mut self, count: usize) -> Result<Option<Pattern<S>>, Fault>
         requires line { IsOneLine self.old.rest.now (Some count) }
         ensures gives { Reads (option_map (pattern_view S T.text)) self.old self.new result
@@ -114,9 +116,9 @@ impl<'p, S: Drop, T: Texts<S>> Parser<'p, S, T> {
         begins_line
     }
 
-    /// Reads the next piece of a pattern, puts it after those that were gathered, and says whether it ends its line. None
-    /// where the pattern ends. A blank line after most patterns would be a piece of its own, which is dropped again: its line
-    /// feed is passed over.
+    /// Reads the next piece of a pattern, puts it after those that were gathered, and says whether
+    /// it ends its line. None where the pattern ends. A blank line after most patterns would be a
+    /// piece of its own, which is dropped again: its line feed is passed over.
     #[cycle(parser)]
     fn get_piece(
         &mut self,
@@ -145,8 +147,8 @@ impl<'p, S: Drop, T: Texts<S>> Parser<'p, S, T> {
         self.get_piece_behind(true, row.spaces as usize, gathered)
     }
 
-    /// The same for a piece after so many spaces. Productions `inline_text`, `block_text`, `inline_placeable` and
-    /// `block_placeable`.
+    /// The same for a piece after so many spaces. Productions `inline_text`, `block_text`,
+    /// `inline_placeable` and `block_placeable`.
     #[cycle(parser)]
     fn get_piece_behind(
         &mut self,
@@ -179,7 +181,8 @@ impl<'p, S: Drop, T: Texts<S>> Parser<'p, S, T> {
         }
     }
 
-    /// The same for a placeable, from its opening brace on. Little is kept in its frame of the stack: placeables nest.
+    /// The same for a placeable, from its opening brace on. Little is kept in its frame of the
+    /// stack: placeables nest.
     #[cycle(parser)]
     #[tactic(auto, using(crate::proofs::Failing::handed, crate::proofs::Steps::placeable_read, crate::proofs::Steps::placeable_fails, crate::proofs::Steps::select_fails))]
     #[inline(always)]

@@ -15,7 +15,8 @@ use fluent_tokens as words;
 use fluent_tokens::{PlainLine, PlainLines};
 use std::alloc::AllocError;
 
-/// What a text says of the common indent, which begins its line or not: nothing within a line or if it is blank.
+/// What a text says of the common indent, which begins its line or not: nothing within a line or if
+/// it is blank.
 fn said(at_line_start: bool, line: &PlainLine) -> Option<usize>
     ensures { result ≡ said at_line_start line.now }
 {
@@ -25,9 +26,9 @@ fn said(at_line_start: bool, line: &PlainLine) -> Option<usize>
 impl<'p, S: Drop, T: Texts<S>> Parser<'p, S, T> {
     ghost use Rattle.fluent_parser.specs.PlainLines.{PutsPlain};
 
-    /// A pattern that stands in plain lines. Their rows say what indent they share, so that each text is cut once, and
-    /// how many there are, so that the list of elements never grows. `None` if the pattern is none of that kind: nothing
-    /// was read then.
+    /// A pattern that stands in plain lines. Their rows say what indent they share, so that each
+    /// text is cut once, and how many there are, so that the list of elements never grows. `None`
+    /// if the pattern is none of that kind: nothing was read then.
     ///
     /// # Errors
     /// [`Fault::Memory`] if memory runs out.
@@ -65,8 +66,8 @@ impl<'p, S: Drop, T: Texts<S>> Parser<'p, S, T> {
         Ok(None)
     }
 
-    /// Reads the next plain line of a pattern, puts it after those that were read, and says whether it ends its line.
-    /// `None` if none stands here: nothing was read then.
+    /// Reads the next plain line of a pattern, puts it after those that were read, and says whether
+    /// it ends its line. `None` if none stands here: nothing was read then.
     fn get_plain_line(
         &mut self,
         at_line_start: bool,

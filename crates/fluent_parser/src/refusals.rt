@@ -31,15 +31,15 @@ pub struct Refusal {
     pub kind: ErrorKind,
 }
 
-/// Why no entry is read at each of these offsets of a source. If spaces and a dot are there, it is why no attribute is
-/// read. An offset where an entry is read has no refusal.
+/// Why no entry is read at each of these offsets of a source. If spaces and a dot are there, it is
+/// why no attribute is read. An offset where an entry is read has no refusal.
 ///
-/// The starts of the slices of the errors of [`parse`](crate::parse) are such offsets. It takes as long as reading from
-/// the offsets, and a pass over the lines of the source.
+/// The starts of the slices of the errors of [`parse`](crate::parse) are such offsets. It takes as
+/// long as reading from the offsets, and a pass over the lines of the source.
 ///
 /// # Errors
-/// [`AllocError`] if memory runs out, or what is there nests so deep that reading it would take more of the machine's
-/// stack than [`StackBudget::PROGRAM`]; nothing is kept.
+/// [`AllocError`] if memory runs out, or what is there nests so deep that reading it would take
+/// more of the machine's stack than [`StackBudget::PROGRAM`]; nothing is kept.
 pub fn refusals_at<'s, S: Slice<'s>>(
     alloc: Global,
     source: S,
@@ -81,7 +81,8 @@ impl<'p, S: Drop, T: Texts<S>> Parser<'p, S, T> {
     ghost use Rattle.fluent_parser.specs.Refusals.{attribute_refusal, first_refusal};
     ghost use Rattle.fluent_parser.specs.Refused.{FindsRefusal};
 
-    /// Why nothing is read at this offset of the source, which has this text. `None` if an entry is.
+    /// Why nothing is read at this offset of the source, which has this text. `None` if an entry
+    /// is.
     ///
     /// # Errors
     /// [`AllocError`] if memory runs out, or what is there nests past the budget.
@@ -125,8 +126,8 @@ impl<'p, S: Drop, T: Texts<S>> Parser<'p, S, T> {
         }
     }
 
-    /// Why the attribute of this line isn't read. `None` if one is read, or the line has none: the parser then stands
-    /// where it stood.
+    /// Why the attribute of this line isn't read. `None` if one is read, or the line has none: the
+    /// parser then stands where it stood.
     fn find_attribute_refusal(&mut self) -> Result<Option<ErrorKind>, AllocError>
         ensures found { IfOk result (λ found. FindsRefusal found self.new.rest.now
             (attribute_refusal self.old.rest.now)) }

@@ -20,7 +20,8 @@ use fluent_text::stack::StackBudget;
 use fluent_tokens::line_table;
 use std::alloc::Global;
 
-/// How many bytes a short entry has, about. Room to spare, which there is for longer ones, is never touched.
+/// How many bytes a short entry has, about. Room to spare, which there is for longer ones, is never
+/// touched.
 const SHORT: usize = 64;
 
 /// The parts of a source, with their comments. Where they begin is put after the other starts.
@@ -100,11 +101,12 @@ impl<'p, S: Drop, T: Texts<S>> Parser<'p, S, T> {
         }
     }
 
-    /// All parts that are left, without comments: a line that begins with `#` where a part may begin is passed over,
-    /// whatever follows.
+    /// All parts that are left, without comments: a line that begins with `#` where a part may
+    /// begin is passed over, whatever follows.
     ///
     /// # Errors
-    /// [`Halt`] if memory runs out, or a part nests past the budget; the parts that were read are dropped.
+    /// [`Halt`] if memory runs out, or a part nests past the budget; the parts that were read are
+    /// dropped.
     pub fn get_runtime_parts(&mut self) -> Result<Collected<S>, Halt>
         requires closed { self.old.stack.taken ≡ 0 }
         ensures entries { IfOk result (λ all. entries_with S T.text all []

@@ -45,8 +45,8 @@ impl<'p, S: Drop, T: Texts<S>> Parser<'p, S, T> {
     /// The variants of a select. Production `variant_list`.
     ///
     /// # Errors
-    /// [`Fault::Refused`] if these are no variants, or not exactly one is the default; the parser then stands at the place of the refusal.
-    /// [`Fault::Memory`] if memory runs out.
+    /// [`Fault::Refused`] if these are no variants, or not exactly one is the default; the parser
+    /// then stands at the place of the refusal. [`Fault::Memory`] if memory runs out.
     /// [`Fault::TooDeep`] if what is there nests past the budget of the stack.
     #[cycle(parser)]
     pub fn get_variants(&mut self) -> Result<Vec<Variant<S>>, Fault>
@@ -73,7 +73,8 @@ impl<'p, S: Drop, T: Texts<S>> Parser<'p, S, T> {
         }
     }
 
-    /// Passes over the mark of the default variant, and says whether it stood here. A second one is refused.
+    /// Passes over the mark of the default variant, and says whether it stood here. A second one is
+    /// refused.
     fn take_default_mark(&mut self, has_default: bool) -> Result<bool, Fault>
         ensures gives { Reads (λ found. found) self.old self.new result
             (default_mark_at has_default) }

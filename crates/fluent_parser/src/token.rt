@@ -64,8 +64,8 @@ impl<'p, S: Drop, T: Texts<S>> Parser<'p, S, T> {
     /// Production `NumberLiteral`.
     ///
     /// # Errors
-    /// [`Fault::Refused`] with the range `0-9` if a digit is missing; the parser then stands where one had to stand.
-    /// [`Fault::Memory`] if memory runs out.
+    /// [`Fault::Refused`] with the range `0-9` if a digit is missing; the parser then stands where
+    /// one had to stand. [`Fault::Memory`] if memory runs out.
     pub fn get_number_literal(&mut self) -> Result<S, Fault>
         ensures gives { Reads T.text self.old self.new result number_at }
         ensures shallow { IsShallow result }
@@ -83,11 +83,12 @@ impl<'p, S: Drop, T: Texts<S>> Parser<'p, S, T> {
         }
     }
 
-    /// The content of a string, after its opening quote, with the closing one. Production `StringLiteral`.
+    /// The content of a string, after its opening quote, with the closing one. Production
+    /// `StringLiteral`.
     ///
     /// # Errors
-    /// [`Fault::Refused`] if the string isn't closed on its line, or an escape is none; the parser then stands at the place of the refusal.
-    /// [`Fault::Memory`] if memory runs out.
+    /// [`Fault::Refused`] if the string isn't closed on its line, or an escape is none; the parser
+    /// then stands at the place of the refusal. [`Fault::Memory`] if memory runs out.
     pub fn get_string_content(&mut self) -> Result<S, Fault>
         ensures gives { Reads T.text self.old self.new result string_content }
         ensures shallow { IsShallow result }
@@ -138,7 +139,8 @@ impl<'p, S: Drop, T: Texts<S>> Parser<'p, S, T> {
         }
     }
 
-    /// The refusal of an escape with too few hex digits, which are shown with the character after them.
+    /// The refusal of an escape with too few hex digits, which are shown with the character after
+    /// them.
     fn missing_digit(&self, digits: usize) -> Fault
         requires { digits ≡ prefix_len w.is_hex_digit self.now.rest.now }
         ensures { Tells result (r.invalid_unicode_escape_sequence

@@ -4,7 +4,8 @@ ghost use Rattle.fluent_plurals.specs.Lookup.{folded, ends_here, begins_with_tag
 
 use crate::sets::{Cardinal, Ordinal};
 
-/// A language: its tag, in small letters with `-` between the parts, and its rules for counts and for places in an order.
+/// A language: its tag, in small letters with `-` between the parts, and its rules for counts and
+/// for places in an order.
 #[derive(Clone, Copy, Debug, PartialEq, Eq)]
 pub(crate) struct Language(
     pub(crate) &'static str,
@@ -24,9 +25,11 @@ pub(crate) fn first_fitting(languages: &[Language], text: &[u8]) -> Option<Langu
     None
 }
 
-/// Whether a text begins with a tag, and no letter or digit follows, as [`LanguagePlurals::for_tag`] finds languages.
+/// Whether a text begins with a tag, and no letter or digit follows, as
+/// [`LanguagePlurals::for_tag`] finds languages.
 ///
-/// The tag is in small letters, with `-` between its parts. Letters of the text count in either case, and `_` counts as `-`.
+/// The tag is in small letters, with `-` between its parts. Letters of the text count in either
+/// case, and `_` counts as `-`.
 ///
 /// ```no_run
 /// begins_with_tag(b"pt-pt", b"pt_PT.UTF-8")

@@ -32,7 +32,8 @@ impl LanguagePlurals {
         }
     }
 
-    /// The rules of English, those of the tag `en`. They give each number the category that `EnglishPlurals` gives it.
+    /// The rules of English, those of the tag `en`. They give each number the category that
+    /// `EnglishPlurals` gives it.
     pub fn english() -> Self
         ensures { result ≡ english_rules }
     {
@@ -42,10 +43,12 @@ impl LanguagePlurals {
         }
     }
 
-    /// The rules of the language that a tag names, such as `pl`, `pt-PT` or `zh_Hant_TW`, or `None` if none are known.
+    /// The rules of the language that a tag names, such as `pl`, `pt-PT` or `zh_Hant_TW`, or `None`
+    /// if none are known.
     ///
-    /// Of the tags with rules, the longest one that the text begins with counts, part by part and in letters of either case.
-    /// So `pt_PT.UTF-8` has the rules of `pt-PT`, and `pt-AO` those of `pt`.
+    /// Of the tags with rules, the longest one that the text begins with counts, part by part and
+    /// in letters of either case. So `pt_PT.UTF-8` has the rules of `pt-PT`, and `pt-AO` those of
+    /// `pt`.
     ///
     /// ```
     /// let Some(polish) = LanguagePlurals::for_tag("pl") else {
@@ -74,8 +77,8 @@ impl LanguagePlurals {
 
     /// The rules of the first of some locales that has any, or `None` if none has.
     ///
-    /// A locale is looked up as [`for_tag`](Self::for_tag) does, so the locales of a bundle stand in the order in which a user
-    /// prefers them.
+    /// A locale is looked up as [`for_tag`](Self::for_tag) does, so the locales of a bundle stand
+    /// in the order in which a user prefers them.
     pub fn of_locales(locales: &[String]) -> Option<Self>
         ensures { result ≡ plurals_of (map string_bytes locales.now) }
     {

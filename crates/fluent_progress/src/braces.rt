@@ -6,8 +6,8 @@ ghost use Rattle.fluent_progress.specs.Braces.{innermost};
 
 use fluent_ast::{Expression, InlineExpression};
 
-/// An expression without the braces around it: `"x"` of `{ { "x" } }`. It is a loop, so any number of braces takes the
-/// same of the machine's stack.
+/// An expression without the braces around it: `"x"` of `{ { "x" } }`. It is a loop, so any number
+/// of braces takes the same of the machine's stack.
 pub fn innermost<'r, 's>(expression: &'r Expression<&'s str>) -> &'r Expression<&'s str>
     ensures { expression_of result.now ≡ innermost (expression_of expression.now) }
 {

@@ -13,8 +13,8 @@ use fluent_value::{FluentArgs, FluentType, FluentValue, ValueScope};
 use std::alloc::AllocError;
 use std::borrow::CowStr;
 
-/// What patterns are resolved in but for their messages and terms: what functions give, and what texts and values are shown by.
-/// It stays the same while a pattern is resolved.
+/// What patterns are resolved in but for their messages and terms: what functions give, and what
+/// texts and values are shown by. It stays the same while a pattern is resolved.
 pub trait Context<C: FluentType, F>: ValueScope<C> {
     /// All of it as plain data.
     ghost environment: { Self → Environment C.Meaning F };
@@ -35,8 +35,8 @@ pub trait Context<C: FluentType, F>: ValueScope<C> {
         ensures { GivesResult C.meaning (environment self.now) result function.now positional.now
             named.now };
 
-    /// What becomes of a text of a pattern. If no transform is set it is the text itself, borrowed, which allocates nothing and
-    /// succeeds.
+    /// What becomes of a text of a pattern. If no transform is set it is the text itself, borrowed,
+    /// which allocates nothing and succeeds.
     ///
     /// # Errors
     /// [`AllocError`] if memory runs out; nothing is kept.

@@ -27,8 +27,8 @@ fn write_fallback(out: &mut String, expression: &Expression<&str>) -> Result<(),
     }
 }
 
-/// Writes the fallback of an inline expression. It is a loop, so any number of braces around it takes the same of the
-/// machine's stack.
+/// Writes the fallback of an inline expression. It is a loop, so any number of braces around it
+/// takes the same of the machine's stack.
 fn write_inline_fallback(
     out: &mut String,
     inline: &InlineExpression<&str>,
@@ -126,7 +126,8 @@ pub fn write_inline_braced(
     out.push_str("}")
 }
 
-/// Reports an error, which isn't that of too many placeables, and writes the fallback of an inline expression in braces.
+/// Reports an error, which isn't that of too many placeables, and writes the fallback of an inline
+/// expression in braces.
 ///
 /// # Errors
 /// [`AllocError`] if memory runs out; the path is unchanged, and the error may be reported.

@@ -29,7 +29,8 @@ impl Frames {
     /// Opens what takes so many bytes.
     ///
     /// # Errors
-    /// [`AllocError`] if more bytes would be open than the budget has, which is noted; nothing is opened.
+    /// [`AllocError`] if more bytes would be open than the budget has, which is noted; nothing is
+    /// opened.
     pub fn open(&mut self, bytes: usize) -> Result<(), AllocError>
         ensures opened { OnOk result (open_in self.new ≡ with_opened bytes (open_in self.old)) }
         ensures past { OnErr result ((open_in self.old).budget < (open_in self.old).taken + bytes) }

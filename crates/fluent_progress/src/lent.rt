@@ -16,8 +16,9 @@ use fluent_value::{
 use std::alloc::{AllocError, Global};
 use std::borrow::CowStr;
 
-/// What patterns are resolved in but for their messages and terms, lent by whoever has it: a bundle, say. `M` is the plural
-/// source, `G` the type of the formatter and `T` that of the transform.
+/// What patterns are resolved in but for their messages and terms, lent by whoever has it: a
+/// bundle, say. `M` is the plural source, `G` the type of the formatter and `T` that of the
+/// transform.
 #[derive(Drop)]
 pub struct BorrowedSettings<'b, M, G, T> {
     /// The plural source.

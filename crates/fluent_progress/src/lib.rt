@@ -2,15 +2,18 @@
 
 //! The resolver's state, and its steps that don't enter a pattern.
 //!
-//! [`Progress`] is that state: it starts with [`Progress::within`], and returns the errors that it was given and those reported
-//! since. A [`Surroundings`] lends the rest for as long as a pattern is resolved: the messages and terms, the
-//! arguments of the request, and a [`Context`], which says what functions give and how texts and values are shown. Whoever has
-//! a plural source and settings lends them as a [`BorrowedSettings`], which is such a context. The modules have the steps that work on all
-//! this: counting, the path, fallbacks, values, variables, targets of references and choices among variants.
+//! [`Progress`] is that state: it starts with [`Progress::within`], and returns the errors that it
+//! was given and those reported since. A [`Surroundings`] lends the rest for as long as a pattern
+//! is resolved: the messages and terms, the arguments of the request, and a [`Context`], which says
+//! what functions give and how texts and values are shown. Whoever has a plural source and settings
+//! lends them as a [`BorrowedSettings`], which is such a context. The modules have the steps that
+//! work on all this: counting, the path, fallbacks, values, variables, targets of references and
+//! choices among variants.
 //!
-//! A value of a term's own arguments is borrowed from the sources of the messages and terms. A value of the request's arguments
-//! may live shorter than they do, so it is written from where it stands, and copied where it becomes a selector or an argument.
-//! Contracts state each step by the definitions of `fluent_meaning`.
+//! A value of a term's own arguments is borrowed from the sources of the messages and terms. A
+//! value of the request's arguments may live shorter than they do, so it is written from where it
+//! stands, and copied where it becomes a selector or an argument. Contracts state each step by the
+//! definitions of `fluent_meaning`.
 
 pub mod braces;
 mod call;

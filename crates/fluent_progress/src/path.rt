@@ -10,8 +10,8 @@ use fluent_ast::Pattern;
 use fluent_ast::laws::equal_nodes;
 use std::alloc::{AllocError, Global};
 
-/// The patterns that are being written, the last one entered last. The first of them is kept in the path itself, so
-/// that memory is allocated only where a pattern is written inside another.
+/// The patterns that are being written, the last one entered last. The first of them is kept in the
+/// path itself, so that memory is allocated only where a pattern is written inside another.
 #[derive(Drop)]
 pub struct Path<'r, 's> {
     first: Option<&'r Pattern<&'s str>>,

@@ -6,8 +6,9 @@ use crate::context::Context;
 use fluent_ids::FluentIds;
 use fluent_value::{FluentArgs, FluentType};
 
-/// What is handed down while a pattern is resolved: the messages and terms, what else it is resolved in, and the arguments of the
-/// request and of the term. Each is lent for as long as the pattern is resolved, and no longer.
+/// What is handed down while a pattern is resolved: the messages and terms, what else it is
+/// resolved in, and the arguments of the request and of the term. Each is lent for as long as the
+/// pattern is resolved, and no longer.
 #[derive(Drop)]
 pub struct Surroundings<'b, 'r, 's, 'a, C, F, E>
 where

@@ -35,8 +35,9 @@ pub struct Progress<'r, 's> {
 }
 
 impl Progress<'_, '_> {
-    /// What an answer starts with: these errors, reported earlier, if they are wanted, and nothing counted, entered or
-    /// open. It may take this budget of the machine's stack. It doesn't allocate.
+    /// What an answer starts with: these errors, reported earlier, if they are wanted, and nothing
+    /// counted, entered or open. It may take this budget of the machine's stack. It doesn't
+    /// allocate.
     pub fn within(alloc: Global, errors: Option<Vec<FluentError>>, budget: StackBudget) -> Self
         ensures state { state result ≡ fresh (option_map (λ es. map bundle_view es.items) errors) }
         ensures path { path_of result ≡ [] }
@@ -56,7 +57,8 @@ impl Progress<'_, '_> {
     /// Opens what takes so many bytes of the machine's stack.
     ///
     /// # Errors
-    /// [`AllocError`] if more bytes would be open than the budget has, which is noted; nothing is opened.
+    /// [`AllocError`] if more bytes would be open than the budget has, which is noted; nothing is
+    /// opened.
     pub fn open_frames(&mut self, bytes: usize) -> Result<(), AllocError>
         ensures opened { OnOk result (open_in self.new.stack ≡ with_opened bytes (open_in self.old.stack)) }
         ensures past { OnErr result ((open_in self.old.stack).budget

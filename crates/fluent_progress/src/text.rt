@@ -39,7 +39,8 @@ pub fn write_literal(out: &mut String, raw: &str) -> Result<(), AllocError>
     }
 }
 
-/// What the raw text of a string literal stands for, as a value. A text without escapes is borrowed.
+/// What the raw text of a string literal stands for, as a value. A text without escapes is
+/// borrowed.
 ///
 /// # Errors
 /// [`AllocError`] if memory runs out; nothing is kept.

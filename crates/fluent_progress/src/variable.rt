@@ -74,8 +74,8 @@ fn owned<'v, C: FluentType>(
 }
 
 impl<'b, 'r, 's, 'a, C: FluentType, F, E: Context<C, F>> Surroundings<'b, 'r, 's, 'a, C, F, E> {
-    /// Writes the value of a variable if it has one, inside a term that of one of its arguments, else that of one of the
-    /// request's, and answers whether it has one.
+    /// Writes the value of a variable if it has one, inside a term that of one of its arguments,
+    /// else that of one of the request's, and answers whether it has one.
     fn write_given(&self, out: &mut String, id: &str) -> Result<bool, AllocError>
         ensures given { IfOk result (λ is_given. is_given ≡ is_some (variable_of self.now id.now)) }
         ensures text { Appends result out.old out.new (variable_text self.now id.now) }
@@ -87,8 +87,8 @@ impl<'b, 'r, 's, 'a, C: FluentType, F, E: Context<C, F>> Surroundings<'b, 'r, 's
         }
     }
 
-    /// A copy of the value of a variable: inside a term of one of its arguments, else of one of the request's, which then borrows
-    /// nothing.
+    /// A copy of the value of a variable: inside a term of one of its arguments, else of one of the
+    /// request's, which then borrows nothing.
     fn variable_copy(&self, id: &str) -> Result<Option<FluentValue<'s, C>>, AllocError>
         ensures { Copies C.meaning result (variable_of self.now id.now) }
     {
@@ -117,7 +117,8 @@ impl<'b, 'r, 's, 'a, C: FluentType, F, E: Context<C, F>> Surroundings<'b, 'r, 's
     /// Writes the value of a variable, or its name in braces.
     ///
     /// # Errors
-    /// [`AllocError`] if memory runs out; the path is unchanged, and a missing variable may be reported.
+    /// [`AllocError`] if memory runs out; the path is unchanged, and a missing variable may be
+    /// reported.
     pub fn write_variable(
         &self,
         out: &mut String,

@@ -51,7 +51,8 @@ fn first_default<'r, 's>(variants: &'r [Variant<&'s str>]) -> Option<&'r Pattern
     None
 }
 
-/// The pattern of the variant that a value chooses: the first whose key matches a text or a number, or else the first default.
+/// The pattern of the variant that a value chooses: the first whose key matches a text or a number,
+/// or else the first default.
 pub fn chosen<'r, 's, C: FluentType + Drop, F, E: Context<C, F>>(
     context: &E,
     value: &FluentValue<'_, C>,

@@ -26,11 +26,12 @@ use std::mem;
 /// How many bytes a text has room for at first. Most texts take no more, and are never moved.
 const ROOM: usize = 64;
 
-/// What a pattern gives: a text without placeables as it is, if nothing changes it, and any other anew.
+/// What a pattern gives: a text without placeables as it is, if nothing changes it, and any other
+/// anew.
 ///
 /// # Errors
-/// [`AllocError`] if memory runs out, or values nest past the budget of the stack; the first of the pattern's errors are
-/// reported.
+/// [`AllocError`] if memory runs out, or values nest past the budget of the stack; the first of the
+/// pattern's errors are reported.
 pub fn answer<'b, 'r, 's, 'a, C: FluentType + Drop, F, E: Context<C, F>>(
     place: &Surroundings<'b, 'r, 's, 'a, C, F, E>,
     pattern: &'r Pattern<&'s str>,
@@ -48,12 +49,13 @@ pub fn answer<'b, 'r, 's, 'a, C: FluentType + Drop, F, E: Context<C, F>>(
     }
 }
 
-/// What a pattern gives within this budget of the machine's stack, as [`answer`] does. Values that nest too deep
-/// are told from want of memory.
+/// What a pattern gives within this budget of the machine's stack, as [`answer`] does. Values that
+/// nest too deep are told from want of memory.
 ///
 /// # Errors
-/// [`Memory`](Fault::Memory) if memory runs out, [`TooDeep`](Fault::TooDeep) only if the pattern takes more bytes at some
-/// place than the budget has; the first of the pattern's errors are reported.
+/// [`Memory`](Fault::Memory) if memory runs out, [`TooDeep`](Fault::TooDeep) only if the pattern
+/// takes more bytes at some place than the budget has; the first of the pattern's errors are
+/// reported.
 pub fn answer_within<'b, 'r, 's, 'a, C: FluentType + Drop, F, E: Context<C, F>>(
     place: &Surroundings<'b, 'r, 's, 'a, C, F, E>,
     pattern: &'r Pattern<&'s str>,
@@ -73,7 +75,8 @@ pub fn answer_within<'b, 'r, 's, 'a, C: FluentType + Drop, F, E: Context<C, F>>(
     }
 }
 
-/// The text of a pattern that is one text. It is what the pattern gives, whatever the arguments are.
+/// The text of a pattern that is one text. It is what the pattern gives, whatever the arguments
+/// are.
 pub fn lone_text<'s>(pattern: &Pattern<&'s str>) -> Option<&'s str>
     ensures { option_copied result ≡ lone_text (elements_of pattern.now) }
 {
@@ -84,8 +87,8 @@ pub fn lone_text<'s>(pattern: &Pattern<&'s str>) -> Option<&'s str>
     }
 }
 
-/// What a pattern writes. If memory runs out, or values nest past the budget, the first of the pattern's errors are
-/// reported.
+/// What a pattern writes. If memory runs out, or values nest past the budget, the first of the
+/// pattern's errors are reported.
 fn resolved<'b, 'r, 's, 'a, C: FluentType + Drop, F, E: Context<C, F>>(
     place: &Surroundings<'b, 'r, 's, 'a, C, F, E>,
     pattern: &'r Pattern<&'s str>,
@@ -114,9 +117,9 @@ fn resolved<'b, 'r, 's, 'a, C: FluentType + Drop, F, E: Context<C, F>>(
 /// Writes what a pattern gives, piece by piece.
 ///
 /// # Errors
-/// [`Writer`](WriteError::Writer) if the writer refuses a piece, [`Memory`](WriteError::Memory) if memory runs out, or
-/// values nest past the budget of the stack. The writer took the pieces before, and the first of the pattern's errors are
-/// reported.
+/// [`Writer`](WriteError::Writer) if the writer refuses a piece, [`Memory`](WriteError::Memory) if
+/// memory runs out, or values nest past the budget of the stack. The writer took the pieces before,
+/// and the first of the pattern's errors are reported.
 pub fn write_answer<'b, 'r, 's, 'a, W, C, F, E>(
     w: &mut W,
     place: &Surroundings<'b, 'r, 's, 'a, C, F, E>,

@@ -10,7 +10,8 @@ use fluent_value::{FluentArgs, FluentType, FluentValue};
 use std::alloc::AllocError;
 use std::borrow::CowStr;
 
-/// What the function of an id gives for these arguments, if it is known. Arguments are resolved in all cases.
+/// What the function of an id gives for these arguments, if it is known. Arguments are resolved in
+/// all cases.
 #[cycle(resolving)]
 pub(crate) fn call_result<'b, 'r, 's, 'a, C: FluentType + Drop, F, E: Context<C, F>>(
     place: &Surroundings<'b, 'r, 's, 'a, C, F, E>,
@@ -25,8 +26,8 @@ pub(crate) fn call_result<'b, 'r, 's, 'a, C: FluentType + Drop, F, E: Context<C,
     place.call(id.name, &positional, &named)
 }
 
-/// What a call that is a value gives, as [`call_result`] does. What such calls in each other take of the machine's
-/// stack is counted.
+/// What a call that is a value gives, as [`call_result`] does. What such calls in each other take
+/// of the machine's stack is counted.
 #[cycle(resolving)]
 pub(crate) fn nested_call<'b, 'r, 's, 'a, C: FluentType + Drop, F, E: Context<C, F>>(
     place: &Surroundings<'b, 'r, 's, 'a, C, F, E>,

@@ -23,7 +23,8 @@ use std::alloc::AllocError;
 /// Writes an expression.
 ///
 /// # Errors
-/// [`AllocError`] if memory runs out; `out` may hold a part of the text, and the first of the errors are reported.
+/// [`AllocError`] if memory runs out; `out` may hold a part of the text, and the first of the
+/// errors are reported.
 #[cycle(resolving)]
 pub fn write_expression<'b, 'r, 's, 'a, C: FluentType + Drop, F, E: Context<C, F>>(
     out: &mut String,
@@ -78,7 +79,8 @@ fn choose<'b, 'r, 's, 'a, C: FluentType + Drop, F, E: Context<C, F>>(
 /// Writes an inline expression.
 ///
 /// # Errors
-/// [`AllocError`] if memory runs out; `out` may hold a part of the text, and the first of the errors are reported.
+/// [`AllocError`] if memory runs out; `out` may hold a part of the text, and the first of the
+/// errors are reported.
 #[cycle(resolving)]
 pub fn write_inline<'b, 'r, 's, 'a, C: FluentType + Drop, F, E: Context<C, F>>(
     out: &mut String,

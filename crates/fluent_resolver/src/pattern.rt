@@ -16,7 +16,8 @@ use std::alloc::AllocError;
 /// Writes a pattern.
 ///
 /// # Errors
-/// [`AllocError`] if memory runs out; `out` may hold a part of the text, and the first of the errors are reported.
+/// [`AllocError`] if memory runs out; `out` may hold a part of the text, and the first of the
+/// errors are reported.
 #[cycle(resolving)]
 pub fn write_pattern<'b, 'r, 's, 'a, C: FluentType + Drop, F, E: Context<C, F>>(
     out: &mut String,
@@ -43,7 +44,8 @@ pub fn write_pattern<'b, 'r, 's, 'a, C: FluentType + Drop, F, E: Context<C, F>>(
 /// Writes a placeable of a pattern: it counts one.
 ///
 /// # Errors
-/// [`AllocError`] if memory runs out; `out` may hold a part of the text, and the first of the errors are reported.
+/// [`AllocError`] if memory runs out; `out` may hold a part of the text, and the first of the
+/// errors are reported.
 #[cycle(resolving)]
 pub fn write_placeable<'b, 'r, 's, 'a, C: FluentType + Drop, F, E: Context<C, F>>(
     out: &mut String,
@@ -64,11 +66,12 @@ pub fn write_placeable<'b, 'r, 's, 'a, C: FluentType + Drop, F, E: Context<C, F>
     write_back(out, is_isolated)
 }
 
-/// Writes a placeable of a pattern that was opened before, without its isolation marks. The first pattern in which one opens
-/// goes on the path.
+/// Writes a placeable of a pattern that was opened before, without its isolation marks. The first
+/// pattern in which one opens goes on the path.
 ///
 /// # Errors
-/// [`AllocError`] if memory runs out; `out` may hold a part of the text, and the first of the errors are reported.
+/// [`AllocError`] if memory runs out; `out` may hold a part of the text, and the first of the
+/// errors are reported.
 #[cycle(resolving)]
 pub fn write_opened<'b, 'r, 's, 'a, C: FluentType + Drop, F, E: Context<C, F>>(
     out: &mut String,
@@ -108,7 +111,8 @@ pub(crate) fn write_target<'b, 'r, 's, 'a, C: FluentType + Drop, F, E: Context<C
 /// Writes a pattern that an expression refers to.
 ///
 /// # Errors
-/// [`AllocError`] if memory runs out; `out` may hold a part of the text, and the first of the errors are reported.
+/// [`AllocError`] if memory runs out; `out` may hold a part of the text, and the first of the
+/// errors are reported.
 #[cycle(resolving)]
 pub fn write_referred<'b, 'r, 's, 'a, C: FluentType + Drop, F, E: Context<C, F>>(
     out: &mut String,

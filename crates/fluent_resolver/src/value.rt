@@ -47,8 +47,8 @@ pub fn value_of<'b, 'r, 's, 'a, C: FluentType + Drop, F, E: Context<C, F>>(
     }
 }
 
-/// The text that an expression writes, as a value. What such values in each other take of the machine's stack is
-/// counted.
+/// The text that an expression writes, as a value. What such values in each other take of the
+/// machine's stack is counted.
 #[cycle(resolving)]
 fn text_value<'b, 'r, 's, 'a, C: FluentType + Drop, F, E: Context<C, F>>(
     place: &Surroundings<'b, 'r, 's, 'a, C, F, E>,

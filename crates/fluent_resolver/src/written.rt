@@ -12,8 +12,8 @@ use fluent_value::FluentType;
 /// Writes a pattern: each text and each placeable of it is a piece.
 ///
 /// # Errors
-/// [`Writer`](WriteError::Writer) if the writer refuses a piece, [`Memory`](WriteError::Memory) if memory runs out. The writer
-/// took the pieces before.
+/// [`Writer`](WriteError::Writer) if the writer refuses a piece, [`Memory`](WriteError::Memory) if
+/// memory runs out. The writer took the pieces before.
 pub fn write_pieces<'b, 'r, 's, 'a, W, C, F, E>(
     w: &mut W,
     place: &Surroundings<'b, 'r, 's, 'a, C, F, E>,

@@ -23,11 +23,11 @@ use std::fmt;
 /// ```
 #[derive(Debug, Drop)]
 pub enum ResourceError<'s> {
-    /// Some of the source is junk. The resource has its messages and terms, and the junk; the errors are those of the
-    /// junk, in the same order.
+    /// Some of the source is junk. The resource has its messages and terms, and the junk; the
+    /// errors are those of the junk, in the same order.
     Broken(FluentResource<'s>, Vec<ParserError>),
-    /// Memory ran out, or placeables, calls and selects are nested so deep that reading them would take more than the
-    /// budget of the machine's stack.
+    /// Memory ran out, or placeables, calls and selects are nested so deep that reading them would
+    /// take more than the budget of the machine's stack.
     Memory,
 }
 

@@ -1,5 +1,5 @@
-//! A source that was read, for use at run time. A [`FluentResource`] borrows the source and holds its entries, and
-//! [`parse_sources`] reads several.
+//! A source that was read, for use at run time. A [`FluentResource`] borrows the source and holds
+//! its entries, and [`parse_sources`] reads several.
 #![tactic(auto)]
 
 mod entries;

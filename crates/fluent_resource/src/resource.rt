@@ -15,7 +15,8 @@ use fluent_grammar::laws::tiling;
 use fluent_parser::{self as parser, StackBudget, parse_runtime_within};
 use std::alloc::Global;
 
-/// A source and its entries, as they are needed at run time: its messages and terms, without comments, and its junk.
+/// A source and its entries, as they are needed at run time: its messages and terms, without
+/// comments, and its junk.
 ///
 /// ```
 /// let resource = FluentResource::try_new(alloc, SOURCE)?;
@@ -36,10 +37,12 @@ impl<'s> FluentResource<'s> {
     /// ```
     ///
     /// # Errors
-    /// - [`ResourceError::Broken`] if some of the source is junk. The resource that it holds has all messages and terms
-    ///   of the source, and the junk; there is an error for each junk, in the same order.
-    /// - [`ResourceError::Memory`] if memory runs out. It also means that placeables, calls and selects are nested so
-    ///   deep that reading them would take more than the budget of the machine's stack.
+    /// - [`ResourceError::Broken`] if some of the source is junk. The resource that it holds has
+    ///   all messages and terms of the source, and the junk; there is an error for each junk, in
+    ///   the same order.
+    /// - [`ResourceError::Memory`] if memory runs out. It also means that placeables, calls and
+    ///   selects are nested so deep that reading them would take more than the budget of the
+    ///   machine's stack.
     pub fn try_new(alloc: Global, source: &'s str) -> Result<Self, ResourceError<'s>>
         ensures source { ReadsSource result source.now }
         ensures entries { HoldsEntries result (runtime_tree source.now) }
@@ -50,7 +53,8 @@ impl<'s> FluentResource<'s> {
         FluentResource::try_new_within(alloc, source, StackBudget::PROGRAM)
     }
 
-    /// As [`FluentResource::try_new`], within this budget of the machine's stack for each message and term.
+    /// As [`FluentResource::try_new`], within this budget of the machine's stack for each message
+    /// and term.
     ///
     /// # Errors
     /// Those of [`FluentResource::try_new`].

@@ -10,12 +10,12 @@ use crate::resource::FluentResource;
 use fluent_parser::StackBudget;
 use std::alloc::{AllocError, Global};
 
-/// The resource of each source, in their order, within this budget of the machine's stack for each message and term. What is
-/// no entry is passed over: a resource has it as junk.
+/// The resource of each source, in their order, within this budget of the machine's stack for each
+/// message and term. What is no entry is passed over: a resource has it as junk.
 ///
 /// # Errors
-/// [`AllocError`] if memory runs out; nothing is kept. It also means that placeables, calls and selects of a source
-/// are nested so deep that reading them would take more than the budget.
+/// [`AllocError`] if memory runs out; nothing is kept. It also means that placeables, calls and
+/// selects of a source are nested so deep that reading them would take more than the budget.
 pub fn parse_sources<'s>(
     alloc: Global,
     sources: &[&'s str],

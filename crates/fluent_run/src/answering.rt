@@ -16,22 +16,25 @@ use std::mem;
 /// The calls of `read` within which the input has to end.
 const READS: u64 = 4_294_967_296;
 
-/// Answers each line of the input from the messages and terms of `sources`, in their order, and writes nothing else: see
-/// `docs/reference/protocol.md`. The function `NUMBER` comes before them, and junk is passed over. Variants are chosen
-/// by `plurals`.
+/// Answers each line of the input from the messages and terms of `sources`, in their order, and
+/// writes nothing else: see `docs/reference/protocol.md`. The function `NUMBER` comes before them,
+/// and junk is passed over. Variants are chosen by `plurals`.
 ///
-/// The input is read in blocks of at most 8,192 bytes, and each line is answered as soon as it is complete. An answer is
-/// complete before its first byte is written.
+/// The input is read in blocks of at most 8,192 bytes, and each line is answered as soon as it is
+/// complete. An answer is complete before its first byte is written.
 ///
-/// Each message and term that is read, and each answer, may take [`StackBudget::PROGRAM`] of the machine's stack.
+/// Each message and term that is read, and each answer, may take [`StackBudget::PROGRAM`] of the
+/// machine's stack.
 ///
 /// # Errors
 /// After each of them but [`RunError::Write`] complete answers were written.
-/// - [`RunError::Memory`] if memory runs out, or if placeables, calls and selects of a source, or those that a request enters,
-///   nest too deep for the budget. The answers to the first lines were written.
-/// - [`RunError::Read`] if the reader fails, or doesn't end within 4,294,967,296 calls of `read`. The answers to all complete
-///   lines that came were written.
-/// - [`RunError::Write`] if the writer fails, or takes none of a piece that isn't empty. A beginning of the answers was written.
+/// - [`RunError::Memory`] if memory runs out, or if placeables, calls and selects of a source, or
+///   those that a request enters, nest too deep for the budget. The answers to the first lines were
+///   written.
+/// - [`RunError::Read`] if the reader fails, or doesn't end within 4,294,967,296 calls of `read`.
+///   The answers to all complete lines that came were written.
+/// - [`RunError::Write`] if the writer fails, or takes none of a piece that isn't empty. A
+///   beginning of the answers was written.
 pub fn run<M: MemoizerKind, R: Source, W: Sink>(
     alloc: Global,
     sources: &[&str],
@@ -54,7 +57,8 @@ pub fn run<M: MemoizerKind, R: Source, W: Sink>(
     )
 }
 
-/// The same, with a budget of the machine's stack for each message and term that is read, and for each answer.
+/// The same, with a budget of the machine's stack for each message and term that is read, and for
+/// each answer.
 pub(crate) fn run_within<M: MemoizerKind, R: Source, W: Sink>(
     alloc: Global,
     sources: &[&str],
@@ -73,7 +77,8 @@ pub(crate) fn run_within<M: MemoizerKind, R: Source, W: Sink>(
     serve(alloc, &desk, reader, writer, READS)
 }
 
-/// As [`run`], for a program that exits next: what was read of the sources is never freed, and the exit doesn't wait for that.
+/// As [`run`], for a program that exits next: what was read of the sources is never freed, and the
+/// exit doesn't wait for that.
 ///
 /// # Errors
 /// Those of [`run`].

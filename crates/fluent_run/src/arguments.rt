@@ -38,11 +38,13 @@ pub fn valued_arguments<'line>(
     Ok(arguments)
 }
 
-/// The values of what is after a line's first tab, if there is one: of each argument the number that its text is, or else the
-/// text. The last of a name counts. `None` if an argument has no equals sign.
+/// The values of what is after a line's first tab, if there is one: of each argument the number
+/// that its text is, or else the text. The last of a name counts. `None` if an argument has no
+/// equals sign.
 ///
 /// # Errors
-/// [`AllocError`] if memory runs out before an argument without an equals sign is read; nothing is kept.
+/// [`AllocError`] if memory runs out before an argument without an equals sign is read; nothing is
+/// kept.
 pub(crate) fn read_valued<'line>(
     alloc: Global,
     rest: Option<&'line str>,

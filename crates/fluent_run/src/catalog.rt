@@ -10,8 +10,8 @@ use fluent_resource::FluentResource;
 use fluent_value::NoFunction;
 use std::alloc::{AllocError, Global};
 
-/// What the ids of resources stand for: first comes `NUMBER`, and then the messages and terms of the resources, in their order.
-/// Of an id the first entry counts, or the last with `overriding`.
+/// What the ids of resources stand for: first comes `NUMBER`, and then the messages and terms of
+/// the resources, in their order. Of an id the first entry counts, or the last with `overriding`.
 ///
 /// # Errors
 /// [`AllocError`] if memory runs out; nothing is kept.

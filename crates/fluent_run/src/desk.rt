@@ -30,8 +30,9 @@ use fluent_text::stack::StackBudget;
 use fluent_value::{FluentArgs, MemoizerKind, NoCustom, NoFunction, NoTransform};
 use std::alloc::{AllocError, Global};
 
-/// What lines are answered from: the sources and their ids, the plural source, whether placeables stand between isolation marks, how
-/// numbers are written, and how much of the machine's stack an answer may take.
+/// What lines are answered from: the sources and their ids, the plural source, whether placeables
+/// stand between isolation marks, how numbers are written, and how much of the machine's stack an
+/// answer may take.
 #[derive(Drop)]
 pub struct Desk<'b, 'r, 's, M> {
     resources: &'r [FluentResource<'s>],
@@ -43,7 +44,8 @@ pub struct Desk<'b, 'r, 's, M> {
 }
 
 impl<'b, 'r, 's, M: MemoizerKind> Desk<'b, 'r, 's, M> {
-    /// Answers from resources, in their order, within a budget of the machine's stack for each answer.
+    /// Answers from resources, in their order, within a budget of the machine's stack for each
+    /// answer.
     ///
     /// # Errors
     /// [`AllocError`] if memory runs out; nothing is kept.
@@ -106,8 +108,8 @@ impl<'b, 'r, 's, M: MemoizerKind> Desk<'b, 'r, 's, M> {
         &self.ids
     }
 
-    /// The ids of the messages, each in a line that ends in LF, in the order of their first entries in the resources. An id is
-    /// there if what counts of it is a message.
+    /// The ids of the messages, each in a line that ends in LF, in the order of their first entries
+    /// in the resources. An id is there if what counts of it is a message.
     ///
     /// # Errors
     /// [`AllocError`] if memory runs out; nothing is kept.
@@ -117,8 +119,8 @@ impl<'b, 'r, 's, M: MemoizerKind> Desk<'b, 'r, 's, M> {
         message_lines(alloc, &self.ids, self.resources)
     }
 
-    /// The names of a message's attributes, each in a line that ends in LF, in their order. A name that the message has twice is
-    /// there twice. `None` if there is no message of the id.
+    /// The names of a message's attributes, each in a line that ends in LF, in their order. A name
+    /// that the message has twice is there twice. `None` if there is no message of the id.
     ///
     /// # Errors
     /// [`AllocError`] if memory runs out; nothing is kept.
@@ -131,8 +133,8 @@ impl<'b, 'r, 's, M: MemoizerKind> Desk<'b, 'r, 's, M> {
         Ok(Some(name_lines(alloc, &message)?))
     }
 
-    /// What a message gives for these arguments: its value, or its first attribute of a name. `None` if there is no such
-    /// message, value or attribute.
+    /// What a message gives for these arguments: its value, or its first attribute of a name.
+    /// `None` if there is no such message, value or attribute.
     ///
     /// ```no_run
     /// let desk = Desk::new(alloc, resources, settings, &plurals, StackBudget::PROGRAM)?;
@@ -142,8 +144,9 @@ impl<'b, 'r, 's, M: MemoizerKind> Desk<'b, 'r, 's, M> {
     /// ```
     ///
     /// # Errors
-    /// [`AllocError`] if memory runs out, or if calls and placeables nest so deep, over all messages that are entered, that they
-    /// would take more of the machine's stack than the desk's budget; nothing is kept.
+    /// [`AllocError`] if memory runs out, or if calls and placeables nest so deep, over all
+    /// messages that are entered, that they would take more of the machine's stack than the desk's
+    /// budget; nothing is kept.
     pub fn format(
         &self,
         alloc: Global,
@@ -156,7 +159,8 @@ impl<'b, 'r, 's, M: MemoizerKind> Desk<'b, 'r, 's, M> {
         self.format_into(alloc, id, attribute, arguments, String::new(alloc))
     }
 
-    /// The same as [`Desk::format`], with a text that is written into the memory of `text`, whose old bytes are lost.
+    /// The same as [`Desk::format`], with a text that is written into the memory of `text`, whose
+    /// old bytes are lost.
     ///
     /// # Errors
     /// Those of [`Desk::format`].
@@ -176,7 +180,8 @@ impl<'b, 'r, 's, M: MemoizerKind> Desk<'b, 'r, 's, M> {
         Ok(Some(self.reply_to(alloc, pattern, arguments, text)?))
     }
 
-    /// What a pattern gives for these arguments. It is written into the memory of `text`, whose old bytes are lost.
+    /// What a pattern gives for these arguments. It is written into the memory of `text`, whose old
+    /// bytes are lost.
     fn reply_to<'x>(
         &'x self,
         alloc: Global,
@@ -204,8 +209,8 @@ impl<'b, 'r, 's, M: MemoizerKind> Desk<'b, 'r, 's, M> {
         resolve(&place, pattern, text, self.stack)
     }
 
-    /// Appends the answer to a request that asks for a pattern, with these arguments after its line's first tab. After an
-    /// error `out` may end in a beginning of it.
+    /// Appends the answer to a request that asks for a pattern, with these arguments after its
+    /// line's first tab. After an error `out` may end in a beginning of it.
     fn push_reply(
         &self,
         alloc: Global,

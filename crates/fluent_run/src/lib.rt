@@ -1,8 +1,9 @@
 //! Answers a stream of request lines from Fluent sources: the whole of Fluent, from bytes to bytes.
 //!
-//! [`run`] reads the sources, and then answers each line of the input as soon as it is complete. A line is an id, with a dot and
-//! the name of an attribute if that is asked for, then arguments `name=value`, separated by tabs;
-//! `docs/reference/protocol.md` has the rules. What is written is `answers` of `fluent_answers`, and nothing else.
+//! [`run`] reads the sources, and then answers each line of the input as soon as it is complete. A
+//! line is an id, with a dot and the name of an attribute if that is asked for, then arguments
+//! `name=value`, separated by tabs; `docs/reference/protocol.md` has the rules. What is written is
+//! `answers` of `fluent_answers`, and nothing else.
 #![tactic(auto)]
 
 mod answering;

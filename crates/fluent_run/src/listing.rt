@@ -1,4 +1,5 @@
-//! What resources have, in lines: the ids of their messages, and the names of a message's attributes.
+//! What resources have, in lines: the ids of their messages, and the names of a message's
+//! attributes.
 
 ghost use Rattle.std.specs.Prelude.{◌≡◌, ◌++◌, [], IfOk, OnOk, string_bytes};
 ghost use Rattle.fluent_ids.specs.MessageView.{message_of};

@@ -10,8 +10,8 @@ use fluent_text::stack::StackBudget;
 use fluent_value::MemoizerKind;
 use std::alloc::{AllocError, Global};
 
-/// The answers to request lines: the bytes that [`run`](crate::run) would write for them. Each message and term that is read,
-/// and each answer, may take this budget of the machine's stack.
+/// The answers to request lines: the bytes that [`run`](crate::run) would write for them. Each
+/// message and term that is read, and each answer, may take this budget of the machine's stack.
 ///
 /// ```
 /// let settings = Settings { isolating: false, overriding: false, numerals: None };
@@ -22,8 +22,9 @@ use std::alloc::{AllocError, Global};
 /// ```
 ///
 /// # Errors
-/// [`AllocError`] if memory runs out, if placeables, calls and selects of a source, or those that a request enters, nest too
-/// deep for the budget, or if the requests are longer than 4,294,967,296 blocks of 8,192 bytes; nothing is left after.
+/// [`AllocError`] if memory runs out, if placeables, calls and selects of a source, or those that a
+/// request enters, nest too deep for the budget, or if the requests are longer than 4,294,967,296
+/// blocks of 8,192 bytes; nothing is left after.
 pub fn answers<M: MemoizerKind>(
     alloc: Global,
     sources: &[&str],

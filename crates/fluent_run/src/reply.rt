@@ -20,7 +20,8 @@ use fluent_value::{FluentType, ValueScope};
 use std::alloc::{AllocError, Global};
 use std::fmt;
 
-/// How many bytes a text has room for at least. Most texts and the lines of their errors take no more, and are never moved.
+/// How many bytes a text has room for at least. Most texts and the lines of their errors take no
+/// more, and are never moved.
 const ROOM: usize = 128;
 
 /// A text, and the errors that came up while it was made, in their order.
@@ -54,7 +55,8 @@ impl fmt::Display for ErrorLine<'_> {
     }
 }
 
-/// What a pattern gives, within a budget of the machine's stack. It is written into the memory of `text`, whose old bytes are lost.
+/// What a pattern gives, within a budget of the machine's stack. It is written into the memory of
+/// `text`, whose old bytes are lost.
 ///
 /// # Errors
 /// [`AllocError`] if memory runs out, or the budget does; nothing is kept.
@@ -91,7 +93,8 @@ impl Reply {
     /// Appends the frame of the reply.
     ///
     /// # Errors
-    /// [`AllocError`] if memory runs out; `out` then holds its old bytes and a front of the answer's.
+    /// [`AllocError`] if memory runs out; `out` then holds its old bytes and a front of the
+    /// answer's.
     pub(crate) fn push_to(self, out: &mut Vec<u8>) -> Result<(), AllocError>
         ensures ok { OnOk result (out.new.items ≡ out.old.items
             ++ frame_of (ok (reply_view self))) }
@@ -101,7 +104,8 @@ impl Reply {
         push_reply(text, &errors, out)
     }
 
-    /// A line for each error, as an answer has them. It is empty if nothing came up, and isn't allocated then.
+    /// A line for each error, as an answer has them. It is empty if nothing came up, and isn't
+    /// allocated then.
     ///
     /// # Errors
     /// [`AllocError`] if memory runs out; nothing is kept.

@@ -13,8 +13,8 @@ use fluent_numerals::LocaleNumerals;
 /// ```
 #[derive(Clone, Copy)]
 pub struct Settings {
-    /// Whether the values of placeables stand between the marks U+2068 and U+2069, which keep their direction from that of the
-    /// text around them.
+    /// Whether the values of placeables stand between the marks U+2068 and U+2069, which keep their
+    /// direction from that of the text around them.
     pub isolating: bool,
     /// Whether the last entry of an id counts, and not the first.
     pub overriding: bool,

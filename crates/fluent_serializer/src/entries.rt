@@ -13,7 +13,8 @@ use fluent_ast::{Attribute, Comment, Entry, Message, Pattern, Resource, Term};
 use fluent_text::{Slice, Slices};
 use std::alloc::AllocError;
 
-/// Writes what is after the sign of a comment's line: nothing if the line is empty or white space alone.
+/// Writes what is after the sign of a comment's line: nothing if the line is empty or white space
+/// alone.
 fn write_comment_text(out: &mut String, line: &str) -> Result<(), AllocError>
     ensures { Writes result out.old out.new (comment_text_signs line.now) }
 {
@@ -71,7 +72,8 @@ pub(crate) fn write_gap(out: &mut String, after: bool) -> Result<(), AllocError>
     Ok(())
 }
 
-/// Writes a comment that stands by itself; `after` says whether an entry that isn't junk stands right before it.
+/// Writes a comment that stands by itself; `after` says whether an entry that isn't junk stands
+/// right before it.
 fn write_free_comment<'s, S: Slice<'s>>(
     out: &mut String,
     after: bool,

@@ -133,7 +133,8 @@ fn closing_nested<S>(expression: &Expression<S>) -> &'static str
     }
 }
 
-/// Writes an expression between its braces. A select goes up to the line feed before the closing brace.
+/// Writes an expression between its braces. A select goes up to the line feed before the closing
+/// brace.
 #[cycle(writing)]
 pub(crate) fn write_expression<S: Drop, T: Texts<S>>(
     out: &mut String,

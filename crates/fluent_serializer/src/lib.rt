@@ -1,8 +1,8 @@
 //! Writing a tree as the text of a source.
 //!
-//! Writing goes by pieces: signs, names, texts and raw literals. Four spaces a level stand before a piece that follows
-//! a line feed. `docs/reference/written-text.md` has the rules, and `specs/Written.antt` of `fluent_grammar` the
-//! definition.
+//! Writing goes by pieces: signs, names, texts and raw literals. Four spaces a level stand before a
+//! piece that follows a line feed. `docs/reference/written-text.md` has the rules, and
+//! `specs/Written.antt` of `fluent_grammar` the definition.
 #![tactic(auto)]
 
 mod entries;
@@ -71,9 +71,10 @@ pub fn serialize_with_options<'s, S: Slice<'s>>(
     Ok(text)
 }
 
-/// The text of a tree with one blank line at most between two entries, and none before the first or after the last: one
-/// stands before each entry that `apart` marks, by its index in the body, and around comments that stand by themselves.
-/// Junk isn't written. Marks that are missing are taken for `false`.
+/// The text of a tree with one blank line at most between two entries, and none before the first or
+/// after the last: one stands before each entry that `apart` marks, by its index in the body, and
+/// around comments that stand by themselves. Junk isn't written. Marks that are missing are taken
+/// for `false`.
 ///
 /// ```no_run
 /// let text = serialize_spaced(alloc, &resource, &[false, false, true])?; // a blank line before the third entry

@@ -7,8 +7,8 @@ ghost use Rattle.fluent_serializer.specs.Writing.{Writes, with_indent};
 
 use std::alloc::AllocError;
 
-/// The level this many levels in. One past the largest number counts as memory that ran out, since its indent is longer
-/// than any text.
+/// The level this many levels in. One past the largest number counts as memory that ran out, since
+/// its indent is longer than any text.
 pub(crate) fn deeper(level: usize, by: usize) -> Result<usize, AllocError>
     ensures { IfOk result (λ deep. deep ≡ level + by) }
 {
@@ -76,7 +76,8 @@ pub(crate) fn write_new_line(out: &mut String) -> Result<(), AllocError>
     write_piece(out, 0, "\n")
 }
 
-/// Writes the mark of a default variant below this level, in the place of the last space of the variant's indent.
+/// Writes the mark of a default variant below this level, in the place of the last space of the
+/// variant's indent.
 pub(crate) fn write_default_mark(out: &mut String, level: usize) -> Result<(), AllocError>
     ensures { Writes result out.old out.new (default_mark (level + 1) ∷ []) }
 {

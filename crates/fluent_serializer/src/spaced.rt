@@ -28,8 +28,8 @@ fn is_marked(apart: &[bool], index: usize) -> bool
     apart.get(index).copied().unwrap_or(false)
 }
 
-/// Whether a blank line stands before an entry: `after` says whether another stands right before it, and `free` whether
-/// that is a comment by itself.
+/// Whether a blank line stands before an entry: `after` says whether another stands right before
+/// it, and `free` whether that is a comment by itself.
 fn is_parted<S>(after: bool, free: bool, apart: bool, entry: &Entry<S>) -> bool
     ensures { (text_of : S → List ℕ) → result
         ≡ spaced.is_parted after free apart (entry_view S text_of entry.now) }

@@ -31,11 +31,12 @@ pub enum Answer<'a, E> {
 }
 
 impl<E: Display> Answer<'_, E> {
-    /// Appends the answer's bytes to `out`: `bad`, `none`, or `ok` with the text's length in bytes and the count of
-    /// errors, the text, and a line for each error.
+    /// Appends the answer's bytes to `out`: `bad`, `none`, or `ok` with the text's length in bytes
+    /// and the count of errors, the text, and a line for each error.
     ///
     /// # Errors
-    /// [`AllocError`] if memory runs out; `out` then holds its old bytes and a front of the answer's.
+    /// [`AllocError`] if memory runs out; `out` then holds its old bytes and a front of the
+    /// answer's.
     pub fn push_to(&self, alloc: Global, out: &mut Vec<u8>) -> Result<(), AllocError>
         ensures ok { OnOk result (IfSome (answer_view E.output self.now)
             (λ answer. Adds out.old out.new (frame_of answer))) }
@@ -81,8 +82,8 @@ fn push_number(out: &mut Vec<u8>, number: usize) -> Result<(), AllocError>
     out.extend_from_slice(digits.format(number).as_bytes())
 }
 
-/// Appends an answer whose text and error lines are one piece already: the text and a line feed, and then a line for
-/// each error.
+/// Appends an answer whose text and error lines are one piece already: the text and a line feed,
+/// and then a line for each error.
 ///
 /// # Errors
 /// [`AllocError`] if memory runs out; `out` then holds its old bytes and a front of the answer's.

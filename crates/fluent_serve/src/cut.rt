@@ -4,7 +4,8 @@ ghost use Rattle.fluent_serve.specs.Text.{cut_at};
 
 use crate::find::first_place;
 
-/// What stands before the first `separator`, an ASCII character, and what stands after it, if it occurs.
+/// What stands before the first `separator`, an ASCII character, and what stands after it, if it
+/// occurs.
 #[inline(always)]
 pub fn cut(text: &str, separator: char) -> (&str, Option<&str>)
     requires { separator < 128 }

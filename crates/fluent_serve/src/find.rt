@@ -8,7 +8,8 @@ use std::simd::prelude::*;
 
 /// How many bytes are compared at once.
 const LANES: usize = 16;
-/// The longest text that is searched sixteen bytes at a time. Longer ones are left to `memchr`, which is slower on short texts.
+/// The longest text that is searched sixteen bytes at a time. Longer ones are left to `memchr`,
+/// which is slower on short texts.
 const NEAR: usize = 64;
 
 /// The first place of a byte in a text.
@@ -31,7 +32,8 @@ pub(crate) fn first_place(byte: u8, text: &[u8]) -> Option<usize>
     last_place(byte, text, last)
 }
 
-/// The first place of a byte in a text whose first sixteen bytes from `last` on are its last, and that has none before them.
+/// The first place of a byte in a text whose first sixteen bytes from `last` on are its last, and
+/// that has none before them.
 #[inline(always)]
 fn last_place(byte: u8, text: &[u8], last: usize) -> Option<usize>
     requires end { last + 16 ≡ length text.now }

@@ -39,7 +39,8 @@ impl<'line> Asked<'line> {
     }
 }
 
-/// The arguments of a request line, one after the other: a name and a text, or `None` if there is no equals sign.
+/// The arguments of a request line, one after the other: a name and a text, or `None` if there is
+/// no equals sign.
 ///
 /// ```no_run
 /// for argument in Arguments::of(asked.arguments) {

@@ -85,7 +85,8 @@ pub trait Engine {
         ensures err { OnErr result (out.new.items ≡ out.old.items) };
 }
 
-/// What stands between the devices: a line whose end has not come yet, and answers that wait to be written.
+/// What stands between the devices: a line whose end has not come yet, and answers that wait to be
+/// written.
 #[derive(Drop)]
 struct Waiting {
     line: Vec<u8>,
@@ -95,7 +96,8 @@ struct Waiting {
 /// Writes all of `bytes`.
 ///
 /// # Errors
-/// [`WriteFailed`] if the writer fails, or takes none of a piece that isn't empty; a front of `bytes` was written.
+/// [`WriteFailed`] if the writer fails, or takes none of a piece that isn't empty; a front of
+/// `bytes` was written.
 pub fn write_all<W: Sink>(writer: &mut W, bytes: &[u8]) -> Result<(), WriteFailed>
     ensures ok { OnOk result (Appends (W.contents writer.old) (W.contents writer.new) bytes.now) }
     ensures failures { OnOk result (W.failures writer.new ≡ W.failures writer.old) }
@@ -207,8 +209,8 @@ fn answer_end<E: Engine>(alloc: Global, engine: &E, waiting: &mut Waiting) -> Re
     Ok(())
 }
 
-/// Reads to the end of the input, by blocks of this length and in at most `reads` calls of `read`, and answers each line
-/// as soon as it is whole. The last answers may wait still.
+/// Reads to the end of the input, by blocks of this length and in at most `reads` calls of `read`,
+/// and answers each line as soon as it is whole. The last answers may wait still.
 fn answer_all<E: Engine, R: Source, W: Sink>(
     alloc: Global,
     engine: &E,
@@ -247,9 +249,9 @@ fn is_write_failure(outcome: &Result<(), RunError>) -> bool
     matches!(outcome, Err(RunError::Write))
 }
 
-/// Answers each line of the input, in order, and writes nothing else. An answer is computed whole before its first byte
-/// is written. What was answered before an error is written, unless the writer fails. At most `reads` calls of `read` are
-/// made.
+/// Answers each line of the input, in order, and writes nothing else. An answer is computed whole
+/// before its first byte is written. What was answered before an error is written, unless the
+/// writer fails. At most `reads` calls of `read` are made.
 ///
 /// # Errors
 /// - [`RunError::Memory`] if memory runs out.

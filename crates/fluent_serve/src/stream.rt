@@ -1,8 +1,8 @@
 //! Where bytes come from and go to.
 //!
-//! Contracts see the bytes of a `Source` and a `Sink`, if they are known, and how many of their calls have failed. They
-//! also see how many bytes a `Source` returned, whether these are known or not.
-//! `FromRead` and `FromWrite` make them of std's readers and writers.
+//! Contracts see the bytes of a `Source` and a `Sink`, if they are known, and how many of their
+//! calls have failed. They also see how many bytes a `Source` returned, whether these are known or
+//! not. `FromRead` and `FromWrite` make them of std's readers and writers.
 ghost use Rattle.std.specs.Prelude.{◌≡◌, ◌≤◌, ℕ, List, Option, IfOk, length};
 ghost use Rattle.std.specs.Io.KnownBytes.{ReadConsumes, WriteAppends};
 ghost use Rattle.fluent_serve.specs.Devices.{failures_after_read, failures_after_write, given_after_read};
@@ -68,8 +68,8 @@ pub trait Source {
     /// How many bytes reads have given. At the greatest `u64` the count stays there.
     ghost given: { Self → ℕ };
 
-    /// Fills the front of `buffer`, and gives the count of its bytes: 0 at the end of the input, or if `buffer` is
-    /// empty.
+    /// Fills the front of `buffer`, and gives the count of its bytes: 0 at the end of the input, or
+    /// if `buffer` is empty.
     ///
     /// # Errors
     /// [`ReadFailed`] if the bytes can't be read; none was taken.
@@ -103,8 +103,8 @@ pub trait Sink {
     /// The bytes that were written, if they are known.
     ghost contents: { Self → Option (List ℕ) };
 
-    /// How many calls have failed, or taken none of a piece that was not empty. At the greatest `u64` the count stays
-    /// there.
+    /// How many calls have failed, or taken none of a piece that was not empty. At the greatest
+    /// `u64` the count stays there.
     ghost failures: { Self → ℕ };
 
     /// Takes bytes from the front of `bytes`, and gives their count.

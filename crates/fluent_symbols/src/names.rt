@@ -35,7 +35,8 @@ pub fn push_variable<'s, 't>(
     Ok(after_name(at, name))
 }
 
-/// Adds the message, the term or the function that is named at the front. Returns the text after it.
+/// Adds the message, the term or the function that is named at the front. Returns the text after
+/// it.
 ///
 /// # Errors
 /// [`AllocError`] if memory runs out; `found` is unchanged.
@@ -58,7 +59,8 @@ pub fn push_name<'s, 't>(
     Ok(after_name(text, name))
 }
 
-/// Adds the attribute of a message or a term, if one is named: at the dot at the front. Returns the text after it.
+/// Adds the attribute of a message or a term, if one is named: at the dot at the front. Returns the
+/// text after it.
 ///
 /// # Errors
 /// [`AllocError`] if memory runs out; `found` is unchanged.

@@ -45,7 +45,8 @@ pub struct Symbol<'s> {
 #[derive(Clone, Copy)]
 pub struct Occurrence<'s, 't> {
     pub symbol: Symbol<'s>,
-    /// The source from the first byte of the name on: after the minus of a term and the dollar sign of a variable.
+    /// The source from the first byte of the name on: after the minus of a term and the dollar sign
+    /// of a variable.
     pub at: &'t [u8],
     /// Whether the symbol is defined here, and not referred to.
     pub is_definition: bool,

@@ -12,9 +12,9 @@ use fluent_parser::{Error, ParserError, StackBudget, parse_within};
 use lint_entries::source_tiles;
 use std::alloc::{AllocError, Global};
 
-/// Where the symbols of a source are defined and referred to: a line of JSON for each occurrence, in the order of their
-/// offsets. `docs/reference/occurrences.md` has the keys. Each message and term that is read may take this budget of the
-/// machine's stack.
+/// Where the symbols of a source are defined and referred to: a line of JSON for each occurrence,
+/// in the order of their offsets. `docs/reference/occurrences.md` has the keys. Each message and
+/// term that is read may take this budget of the machine's stack.
 ///
 /// ```no_run
 /// let lines = occurrence_lines(alloc, "hello = Hello, { $name }!\n", StackBudget::PROGRAM)?;

@@ -1,5 +1,6 @@
-//! A walk through the tree of a pattern and its source. Each function adds the occurrences in a part, and gives what
-//! follows the part. All of a pattern belong to the same message or term, its owner.
+//! A walk through the tree of a pattern and its source. Each function adds the occurrences in a
+//! part, and gives what follows the part. All of a pattern belong to the same message or term, its
+//! owner.
 
 ghost use Rattle.std.specs.Prelude.{◌≡◌, IfOk, OnOk};
 ghost use Rattle.fluent_ast.specs.Borrowed.{arguments_of, elements_of, expression_of, inline_of, maybe_arguments_of, named_of, positional_of, variants_of};

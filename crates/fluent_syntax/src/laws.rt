@@ -1,4 +1,5 @@
-//! Laws of trees, of errors, of damage and of written texts: each function only carries a law, as its contract.
+//! Laws of trees, of errors, of damage and of written texts: each function only carries a law, as
+//! its contract.
 
 pub use fluent_ast::laws::equal_nodes;
 // Damage: a text without errors after any lines.

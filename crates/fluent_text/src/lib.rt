@@ -1,8 +1,10 @@
-//! The texts of Fluent: those that a tree is made of, and those that a call writes; and a bound on the machine's stack.
+//! The texts of Fluent: those that a tree is made of, and those that a call writes; and a bound on
+//! the machine's stack.
 //!
-//! A [`Slice`] is a text of a source; its bytes are what contracts see. A [`TextWrite`] takes a text piece by piece, and
-//! contracts see what it holds. A [`WriteError`] says why a text could not be written whole. A [`stack::Stack`] counts how
-//! much of the machine's stack nested expressions take.
+//! A [`Slice`] is a text of a source; its bytes are what contracts see. A [`TextWrite`] takes a
+//! text piece by piece, and contracts see what it holds. A [`WriteError`] says why a text could not
+//! be written whole. A [`stack::Stack`] counts how much of the machine's stack nested expressions
+//! take.
 #![tactic(auto)]
 
 mod error;

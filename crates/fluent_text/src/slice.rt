@@ -1,7 +1,7 @@
 //! The text types that a tree of a Fluent source can be made of.
 //!
-//! [`Slice`] is what a caller needs. [`Texts`] has the same calls on a value, and [`Slices`] is that value, for functions
-//! that call each other. Lengths and offsets are in bytes.
+//! [`Slice`] is what a caller needs. [`Texts`] has the same calls on a value, and [`Slices`] is
+//! that value, for functions that call each other. Lengths and offsets are in bytes.
 ghost use Rattle.std.specs.Prelude.{◌≡◌, ℕ, ◌≤◌, ◌==◌, List, length, slice_range, IfOk, IsOk, refl, string_bytes};
 ghost use Rattle.std.specs.Str.{IsCharBoundary, trim_end};
 ghost use Rattle.std.specs.Cmp.Lexicographic.{pointwise};
@@ -10,7 +10,8 @@ use std::alloc::{AllocError, Global};
 use std::marker::PhantomData;
 use std::ops::Range;
 
-/// A text of a source that lives for `'s`. Contracts see it as its bytes. Lengths and offsets are bytes.
+/// A text of a source that lives for `'s`. Contracts see it as its bytes. Lengths and offsets are
+/// bytes.
 ///
 /// ```no_run
 /// /// What is before the first space of a text.
@@ -27,8 +28,8 @@ pub trait Slice<'s>: PartialEq + Drop {
     fn as_str(&self) -> &str
         ensures { result.now ≡ text self.now };
 
-    /// The part of the text in `range`, whose ends stand in order within the text, each at the boundary of a
-    /// character.
+    /// The part of the text in `range`, whose ends stand in order within the text, each at the
+    /// boundary of a character.
     ///
     /// # Errors
     /// [`AllocError`] if memory runs out; nothing is kept.
@@ -113,8 +114,8 @@ impl<'s> Slice<'s> for String {
     }
 }
 
-/// The calls of [`Slice`] through a value, under a bound that names no lifetime: functions that call each other take
-/// a `&T` under `T: Texts<S>` in place of the bound `S: Slice<'s>`.
+/// The calls of [`Slice`] through a value, under a bound that names no lifetime: functions that
+/// call each other take a `&T` under `T: Texts<S>` in place of the bound `S: Slice<'s>`.
 pub trait Texts<S> {
     /// The bytes of a text, in UTF-8.
     ghost text: { S → List ℕ };

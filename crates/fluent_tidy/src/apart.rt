@@ -8,7 +8,8 @@ use fluent_ast::{Comment, Entry};
 use fluent_text::Slice;
 use std::alloc::{AllocError, Global};
 
-/// Whether a blank line stands before each of these entries, whose parts begin at these places of a source.
+/// Whether a blank line stands before each of these entries, whose parts begin at these places of a
+/// source.
 ///
 /// # Errors
 /// [`AllocError`] if memory runs out; nothing is kept.

@@ -13,15 +13,16 @@ use std::alloc::Global;
 
 /// The source without the stretches that can't be read: without the slices of its errors.
 ///
-/// Each message and term stays, in its order. Comments stay too, but if junk is gone between a comment and a message,
-/// the message takes it. A source without errors comes back as it is.
+/// Each message and term stays, in its order. Comments stay too, but if junk is gone between a
+/// comment and a message, the message takes it. A source without errors comes back as it is.
 ///
 /// ```
 /// let cleaned = clean(alloc, SOURCE)?; // key1 = Value 1, an empty line, key2={ $x }
 /// ```
 ///
 /// # Errors
-/// `CarriageReturn` exactly if the source holds one, before anything is allocated. `Memory` if memory runs out.
+/// `CarriageReturn` exactly if the source holds one, before anything is allocated. `Memory` if
+/// memory runs out.
 pub fn clean(alloc: Global, source: &str) -> Result<String, CleanError>
     ensures text { IfOk result (λ text. string_bytes text ≡ cut source.now) }
     ensures no_errors { IfOk result (λ text. errors (string_bytes text) ≡ []) }

@@ -22,7 +22,8 @@ use std::fmt;
 /// ```
 #[derive(Clone, Copy, Debug, PartialEq, Eq)]
 pub enum CleanError {
-    /// Memory ran out, and the same call may succeed later; or what is read nests deeper than the budget of the stack.
+    /// Memory ran out, and the same call may succeed later; or what is read nests deeper than the
+    /// budget of the stack.
     Memory = 1,
     /// A source holds a carriage return.
     CarriageReturn = 2,
@@ -39,7 +40,8 @@ pub enum CleanError {
 /// ```
 #[derive(Clone, Copy, Debug, PartialEq, Eq)]
 pub enum NormalizeError {
-    /// Memory ran out, and the same call may succeed later; or what is read nests deeper than the budget of the stack.
+    /// Memory ran out, and the same call may succeed later; or what is read nests deeper than the
+    /// budget of the stack.
     Memory = 1,
     /// The source holds a carriage return.
     CarriageReturn = 2,
@@ -59,7 +61,8 @@ pub enum NormalizeError {
 /// ```
 #[derive(Clone, Copy, Debug, PartialEq, Eq)]
 pub enum ImportError {
-    /// Memory ran out, and the same call may succeed later; or what is read nests deeper than the budget of the stack.
+    /// Memory ran out, and the same call may succeed later; or what is read nests deeper than the
+    /// budget of the stack.
     Memory = 1,
     /// What is written of the tree isn't read back as that tree.
     NotNormal = 3,

@@ -13,13 +13,15 @@ use crate::returns::has_return;
 use fluent_tokens::ends_line;
 use std::alloc::{AllocError, Global};
 
-/// Several sources as one: each without the stretches that can't be read, and on lines of its own, in their order.
+/// Several sources as one: each without the stretches that can't be read, and on lines of its own,
+/// in their order.
 ///
-/// The text has the messages and terms of the sources, one source after the other, and the notices that the sources have if the
-/// first entry of an id counts. Of no sources it is empty.
+/// The text has the messages and terms of the sources, one source after the other, and the notices
+/// that the sources have if the first entry of an id counts. Of no sources it is empty.
 ///
 /// # Errors
-/// `CarriageReturn` exactly if a source holds one, before anything is allocated. `Memory` if memory runs out.
+/// `CarriageReturn` exactly if a source holds one, before anything is allocated. `Memory` if memory
+/// runs out.
 #[tactic(auto, using(crate::proofs::NoReturn::any_text))]
 pub fn join(alloc: Global, sources: &[&str]) -> Result<String, CleanError>
     ensures text { IfOk result (λ text. string_bytes text ≡ joined (texts sources.now)) }

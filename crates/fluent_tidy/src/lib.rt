@@ -2,8 +2,8 @@
 
 //! Tidying Fluent sources, which changes no text that they show.
 //!
-//! A translation file gets damaged, is put together from others, or has been written by another tool. These calls give it back
-//! in order: with the messages and terms that it had, or not at all.
+//! A translation file gets damaged, is put together from others, or has been written by another
+//! tool. These calls give it back in order: with the messages and terms that it had, or not at all.
 //!
 //! | Call | Gives |
 //! |---|---|
@@ -14,8 +14,9 @@
 //! | [`export`] | the JSON tree of the cleaned source |
 //! | [`import`] | the text of a JSON tree, if that is read back as the same tree |
 //!
-//! They refuse sources with a carriage return, since written text ends its lines in a line feed alone. No call changes what it
-//! is passed. [`laws`] says what stays when sources are tidied, over plain data.
+//! They refuse sources with a carriage return, since written text ends its lines in a line feed
+//! alone. No call changes what it is passed. [`laws`] says what stays when sources are tidied, over
+//! plain data.
 
 mod apart;
 mod cleaning;

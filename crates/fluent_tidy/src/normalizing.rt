@@ -19,8 +19,8 @@ use fluent_ast::Resource;
 use fluent_serializer::serialize;
 use std::alloc::{AllocError, Global};
 
-/// The normal text of a source: its cleaned text's tree as the serializer writes it, if that is read back as that
-/// very tree.
+/// The normal text of a source: its cleaned text's tree as the serializer writes it, if that is
+/// read back as that very tree.
 ///
 /// It has the messages and terms of the source, in their order, and is its own normal text.
 ///
@@ -29,9 +29,9 @@ use std::alloc::{AllocError, Global};
 /// ```
 ///
 /// # Errors
-/// `CarriageReturn` exactly if the source holds one, before anything is allocated. `NotNormal` if the written text
-/// isn't read back as the tree; this takes one of the five shapes of `docs/reference/normal-text.md`. `Memory` if
-/// memory ran out.
+/// `CarriageReturn` exactly if the source holds one, before anything is allocated. `NotNormal` if
+/// the written text isn't read back as the tree; this takes one of the five shapes of
+/// `docs/reference/normal-text.md`. `Memory` if memory ran out.
 pub fn normalize(alloc: Global, source: &str) -> Result<String, NormalizeError>
     ensures text { IfOk result (λ text. IsNormalText source.now (string_bytes text)) }
     ensures same_list { IfOk result (λ text. list (string_bytes text) ≡ list source.now) }

@@ -26,8 +26,8 @@ pub fn without_mark(text: &str) -> &str
     }
 }
 
-/// The text with LF in place of each CR LF. A line that is blank before its CR LF loses its spaces: they aren't part of a
-/// text there, and before LF they may be. A carriage return alone stays.
+/// The text with LF in place of each CR LF. A line that is blank before its CR LF loses its spaces:
+/// they aren't part of a text there, and before LF they may be. A carriage return alone stays.
 ///
 /// # Errors
 /// [`AllocError`] if memory runs out; nothing is kept.
@@ -45,8 +45,8 @@ pub fn with_line_feeds(alloc: Global, text: &str) -> Result<String, AllocError>
     Ok(new)
 }
 
-/// What stays of a line before its line feed: the line without the carriage return at its end, or nothing if only spaces
-/// come before that.
+/// What stays of a line before its line feed: the line without the carriage return at its end, or
+/// nothing if only spaces come before that.
 fn without_return(line: &str) -> &str
     requires { list_any (λ c. c == line_feed) line.now ≡ false }
     ensures { plain.with_line_feeds (line.now ++ line_feed ∷ []) ≡ result.now ++ line_feed ∷ [] }

@@ -19,7 +19,8 @@ use std::fmt;
 /// ```
 #[derive(Debug, PartialEq, Eq, Drop)]
 pub enum TidyError {
-    /// Memory ran out, and the same call may succeed later; or what is read nests deeper than the budget of the stack.
+    /// Memory ran out, and the same call may succeed later; or what is read nests deeper than the
+    /// budget of the stack.
     Memory,
     /// The source holds a carriage return that isn't part of CR LF.
     CarriageReturn,

@@ -29,9 +29,9 @@ pub enum Laid {
     Shaped(Vec<usize>),
 }
 
-/// The tidy text of a source, as a formatter writes code: each entry as the serializer writes it, in its order, and one
-/// blank line where the source has some between two, or a comment that stands by itself needs one. A byte order mark is
-/// left out, and lines end in LF.
+/// The tidy text of a source, as a formatter writes code: each entry as the serializer writes it,
+/// in its order, and one blank line where the source has some between two, or a comment that stands
+/// by itself needs one. A byte order mark is left out, and lines end in LF.
 ///
 /// It has the messages, the terms and the comments of the source, and is its own tidy text.
 ///

@@ -30,7 +30,8 @@ use std::alloc::{AllocError, Global};
 /// ```
 ///
 /// # Errors
-/// `CarriageReturn` exactly if the source holds one, before anything is allocated. `Memory` if memory runs out.
+/// `CarriageReturn` exactly if the source holds one, before anything is allocated. `Memory` if
+/// memory runs out.
 pub fn export(alloc: Global, source: &str) -> Result<Value, CleanError>
     ensures value { IfOk result (λ value. view value ≡ json (tree (cut source.now))) }
     ensures carriage_return { IsErrOf result CarriageReturn ↔ IsTrue (holds_return source.now) }
@@ -40,8 +41,8 @@ pub fn export(alloc: Global, source: &str) -> Result<Value, CleanError>
     Ok(to_value(alloc, &tree)?)
 }
 
-/// The text of a JSON tree, with a version or without: what the serializer writes of it, if that is read back as that
-/// very tree.
+/// The text of a JSON tree, with a version or without: what the serializer writes of it, if that is
+/// read back as that very tree.
 ///
 /// What [`export`] gives of a source is imported as the source's normal text.
 ///
@@ -51,8 +52,8 @@ pub fn export(alloc: Global, source: &str) -> Result<Value, CleanError>
 /// ```
 ///
 /// # Errors
-/// `Shape` exactly if no tree has the value. `NotNormal` if the written text isn't read back as the tree. `Memory`
-/// if memory runs out.
+/// `Shape` exactly if no tree has the value. `NotNormal` if the written text isn't read back as the
+/// tree. `Memory` if memory runs out.
 pub fn import(alloc: Global, value: &Value) -> Result<String, ImportError>
     ensures text { IfOk result (λ text. IsImported (view value.now) (string_bytes text)) }
     ensures not_normal { IsErrOf result NotNormal → IsNotImported (view value.now) }

@@ -8,7 +8,8 @@ ghost use Rattle.fluent_tokens.specs.Counted.{Cuts, is_blank_at};
 use crate::lanes::{LANES, no_spaces};
 use std::simd::prelude::*;
 
-/// How many spaces stand at the front: production `blank_inline`, which may be empty here. Mostly there is none or one.
+/// How many spaces stand at the front: production `blank_inline`, which may be empty here. Mostly
+/// there is none or one.
 #[inline(always)]
 pub fn blank_inline_len(text: &[u8]) -> usize
     ensures { result ≡ w.spaces text.now }
@@ -61,7 +62,8 @@ fn is_blank_at(text: &[u8]) -> bool
     matches!(text, [b' ' | b'\n', ..] | [b'\r', b'\n', ..])
 }
 
-/// How many bytes the blank lines at the front have, each with its line end. Production `blank_block`.
+/// How many bytes the blank lines at the front have, each with its line end. Production
+/// `blank_block`.
 pub fn blank_block_len(text: &[u8]) -> usize
     ensures value { drop result text.now ≡ w.skip_blank_block text.now }
     ensures cuts { Cuts text.now result }

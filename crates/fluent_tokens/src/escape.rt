@@ -40,7 +40,8 @@ pub(crate) fn escape_at(text: &str) -> Escape
     }
 }
 
-/// An escape of this many hex digits, which the text begins with. The sign before them counts in its length.
+/// An escape of this many hex digits, which the text begins with. The sign before them counts in
+/// its length.
 fn unicode_escape(text: &str, count: usize) -> Escape
     requires { 0 < count }
     ensures character { encode_utf8 result.character ≡ (unicode_escape count text.now).stands_for }
@@ -54,7 +55,8 @@ fn unicode_escape(text: &str, count: usize) -> Escape
     }
 }
 
-/// How many bytes the digits of an escape take: this many, at most to the end of the text, and whole characters.
+/// How many bytes the digits of an escape take: this many, at most to the end of the text, and
+/// whole characters.
 fn digits_len(text: &str, count: usize) -> usize
     ensures value { result ≡ digits_len count text.now }
     ensures cuts { Cuts text.now result }

@@ -62,7 +62,8 @@ pub fn begins_literal(text: &[u8]) -> bool
     }
 }
 
-/// Whether a text begins with a byte that begins a text of a pattern, on any line: no space, line end or opening brace.
+/// Whether a text begins with a byte that begins a text of a pattern, on any line: no space, line
+/// end or opening brace.
 pub fn begins_text(text: &[u8]) -> bool
     ensures { result ≡ w.begins starts_text text.now }
 {

@@ -1,11 +1,15 @@
-//! What stands in the bytes of a source, for readers that make a tree of it: tokens, lines and escapes.
+//! What stands in the bytes of a source, for readers that make a tree of it: tokens, lines and
+//! escapes.
 //!
-//! A token is how many bytes it takes at the start of a text. [`line_table`] goes over a text once and makes a [`Row`] for
-//! each line: where it begins and ends, how many spaces stand at its front, whether it can begin an entry or ends a pattern,
-//! and whether it is plain, with no brace. [`Lines`] looks rows up by place: the search begins at the line of the last one,
-//! so a reader that goes forward passes over each row about once. [`unicode`] has the escapes of string literals.
+//! A token is how many bytes it takes at the start of a text. [`line_table`] goes over a text once
+//! and makes a [`Row`] for each line: where it begins and ends, how many spaces stand at its front,
+//! whether it can begin an entry or ends a pattern, and whether it is plain, with no brace.
+//! [`Lines`] looks rows up by place: the search begins at the line of the last one, so a reader
+//! that goes forward passes over each row about once. [`unicode`] has the escapes of string
+//! literals.
 //!
-//! What a line is, is defined in `fluent_grammar` (`Words`, `Lines`); `docs/reference/grammar.md` has it in words.
+//! What a line is, is defined in `fluent_grammar` (`Words`, `Lines`); `docs/reference/grammar.md`
+//! has it in words.
 #![tactic(auto)]
 
 mod blanks;

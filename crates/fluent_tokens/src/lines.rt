@@ -31,7 +31,8 @@ pub fn line_len(text: &[u8]) -> usize
     before_feed(text, end)
 }
 
-/// How many bytes the line at the front has without its line end, and whether it is plain: no brace stands in it.
+/// How many bytes the line at the front has without its line end, and whether it is plain: no brace
+/// stands in it.
 pub(crate) fn measure_long_line(text: &[u8]) -> (usize, bool)
     ensures value { IsLine text.now result.0 }
     ensures cuts { Cuts text.now result.0 }

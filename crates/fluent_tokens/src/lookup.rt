@@ -10,12 +10,14 @@ ghost use Rattle.fluent_tokens.specs.Lookup.{past_comments, feeds_last, is_last_
 
 use crate::{Row, begins_text, begins_with, from, text_len};
 
-/// The lines of a text, looked up by place in their table. A place is an offset in bytes, up to the end of the text.
+/// The lines of a text, looked up by place in their table. A place is an offset in bytes, up to the
+/// end of the text.
 #[derive(Drop)]
 pub struct Lines<'a> {
     pub(crate) text: &'a [u8],
     rows: &'a [Row],
-    /// Where the next search begins: a row's number. Reading goes on mostly from the line where it was.
+    /// Where the next search begins: a row's number. Reading goes on mostly from the line where it
+    /// was.
     near: usize,
     ghost are_lines: { map row_view rows.now ≡ lines text.now },
     ghost is_row: { near < length rows.now },
@@ -44,8 +46,8 @@ impl<'a> Lines<'a> {
         self.find(place).end.saturating_sub(place)
     }
 
-    /// How many bytes stand before the next line after this place that may begin an entry: all that are left, if there
-    /// is none.
+    /// How many bytes stand before the next line after this place that may begin an entry: all that
+    /// are left, if there is none.
     pub fn entry_start(&mut self, place: usize) -> usize
         requires { place ≤ length self.old.text.now }
         ensures value { drop result (drop place self.old.text.now)
@@ -64,8 +66,8 @@ impl<'a> Lines<'a> {
         self.text.len() - place
     }
 
-    /// How many bytes stand at this place up to the end of its line and of the lines after it that begin with `#`. No text
-    /// is looked at.
+    /// How many bytes stand at this place up to the end of its line and of the lines after it that
+    /// begin with `#`. No text is looked at.
     pub fn comments_len(&mut self, place: usize) -> usize
         requires { place ≤ length self.old.text.now }
         ensures value { drop result (drop place self.old.text.now)
@@ -84,8 +86,9 @@ impl<'a> Lines<'a> {
         self.text.len() - place
     }
 
-    /// How many bytes the text at this place has, as the text of a pattern: up to and with the line feed, or up to an opening
-    /// brace, a CR LF or the end. In a plain line no brace is searched for.
+    /// How many bytes the text at this place has, as the text of a pattern: up to and with the line
+    /// feed, or up to an opening brace, a CR LF or the end. In a plain line no brace is searched
+    /// for.
     ///
     /// # Errors
     /// The offset of a closing brace from this place, if one comes first: no text may have it.
@@ -115,9 +118,9 @@ impl<'a> Lines<'a> {
         self.find(place)
     }
 
-    /// The length of a text that is all of a pattern: of one line, with its line feed, after which the pattern ends. It
-    /// is read from the rows; only the first byte is looked at, and the one after the line. `None` if the text is none,
-    /// or if the rows don't say it.
+    /// The length of a text that is all of a pattern: of one line, with its line feed, after which
+    /// the pattern ends. It is read from the rows; only the first byte is looked at, and the one
+    /// after the line. `None` if the text is none, or if the rows don't say it.
     #[inline(always)]
     pub fn one_line_len(&mut self, place: usize) -> Option<usize>
         requires { place ≤ length self.old.text.now }
@@ -174,8 +177,8 @@ impl<'a> Lines<'a> {
     }
 }
 
-/// How many bytes the plain line at the front has with its line feed, if its length is this: its text, as that of a
-/// pattern.
+/// How many bytes the plain line at the front has with its line feed, if its length is this: its
+/// text, as that of a pattern.
 pub(crate) fn plain_text_len(text: &[u8], len: usize) -> usize
     requires line { len ≡ length (rest_of_line text.now).0 }
     requires plain { is_plain (take len text.now) ≡ true }
@@ -186,7 +189,8 @@ pub(crate) fn plain_text_len(text: &[u8], len: usize) -> usize
     len + usize::from(has_line_feed)
 }
 
-/// Whether a pattern ends after the line feed of a line, or after one more. The rows after that of the line say so.
+/// Whether a pattern ends after the line feed of a line, or after one more. The rows after that of
+/// the line say so.
 fn is_last_line(row: &Row, later: &[Row]) -> bool
     ensures { result ≡ is_last_line row.now later.now }
 {
@@ -201,8 +205,8 @@ fn is_last_line(row: &Row, later: &[Row]) -> bool
     }
 }
 
-/// Whether the last byte of a line stands at this place, and a pattern ends after it. The rows after that of the line
-/// say so.
+/// Whether the last byte of a line stands at this place, and a pattern ends after it. The rows
+/// after that of the line say so.
 pub(crate) fn feeds_last(row: &Row, later: &[Row], place: usize) -> bool
     ensures { result ≡ feeds_last row.now later.now place }
 {

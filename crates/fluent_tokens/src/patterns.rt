@@ -13,11 +13,12 @@ use crate::lanes::{LANES, stops};
 use memchr::memchr3;
 use std::simd::prelude::*;
 
-/// How many bytes are read sixteen at a time. What is farther is left to `memchr3`, which is slower on short
-/// texts.
+/// How many bytes are read sixteen at a time. What is farther is left to `memchr3`, which is slower
+/// on short texts.
 const NEAR: usize = 128;
 
-/// How many bytes the text at the front has: up to and with the line feed, or up to an opening brace, a CR LF or the end.
+/// How many bytes the text at the front has: up to and with the line feed, or up to an opening
+/// brace, a CR LF or the end.
 ///
 /// # Errors
 /// The offset of a closing brace, if one comes first: no text may have it.
@@ -73,7 +74,8 @@ pub fn pattern_ends(text: &[u8], indent: usize) -> bool
     let Some(byte) = from(text, indent).first() else {
         return indent == 0;
     };
-    // Which byte it is, is found without a branch: it is another in each line, and no processor foresees it.
+    // Which byte it is, is found without a branch: it is another in each line, and no processor
+    // foresees it.
     let at_column_zero = indent == 0;
     let goes_on = (*byte == b'{') | (*byte == b'\r') | (*byte == b'\n');
     let ends = (*byte == b'}') | (*byte == b'.') | (*byte == b'[') | (*byte == b'*');

@@ -31,9 +31,10 @@ pub struct PlainLine {
 }
 
 impl<'a> Lines<'a> {
-    /// What the rows say of the pattern at this place, after the spaces before it: `None` unless all of it stands in plain
-    /// lines, each with a line feed, of which some share an indent. No text is looked at. It tells a reader what room to
-    /// make and what to cut, and no more: that the pattern is so shows when it is read.
+    /// What the rows say of the pattern at this place, after the spaces before it: `None` unless
+    /// all of it stands in plain lines, each with a line feed, of which some share an indent. No
+    /// text is looked at. It tells a reader what room to make and what to cut, and no more: that
+    /// the pattern is so shows when it is read.
     #[inline(always)]
     pub fn plain_lines(&mut self, place: usize) -> Option<PlainLines>
         requires { place ≤ length self.old.text.now }
@@ -48,8 +49,8 @@ impl<'a> Lines<'a> {
         plain_lines_after(&row, later, row.end > place)
     }
 
-    /// The line that begins at this place, if it is plain and a pattern goes on with a text in it. One look at its row says
-    /// so, and no byte is looked at but the one after the line.
+    /// The line that begins at this place, if it is plain and a pattern goes on with a text in it.
+    /// One look at its row says so, and no byte is looked at but the one after the line.
     #[inline(always)]
     pub fn plain_line(&mut self, place: usize) -> Option<PlainLine>
         requires within { place ≤ length self.old.text.now }
@@ -78,7 +79,8 @@ impl<'a> Lines<'a> {
     }
 }
 
-/// What the rows after that of a line say of the pattern in it, which has a text in this line or begins after it.
+/// What the rows after that of a line say of the pattern in it, which has a text in this line or
+/// begins after it.
 fn plain_lines_after(row: &Row, later: &[Row], has_text: bool) -> Option<PlainLines> {
     let mut last = *row;
     let mut count = usize::from(has_text);

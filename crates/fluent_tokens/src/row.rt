@@ -31,8 +31,8 @@ pub struct Row {
 }
 
 impl Row {
-    /// The row of the line at the front of a text, which has this many bytes, is plain or not, and begins at `start` of
-    /// a source.
+    /// The row of the line at the front of a text, which has this many bytes, is plain or not, and
+    /// begins at `start` of a source.
     ///
     /// # Errors
     ///

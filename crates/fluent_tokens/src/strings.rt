@@ -17,7 +17,8 @@ pub enum StringEnd {
     LineFeed(usize),
     /// A backslash at this offset begins no escape.
     UnknownEscape(usize),
-    /// Too few hex digits are after `\u` or `\U`: the digits begin at the first offset, and end at the second.
+    /// Too few hex digits are after `\u` or `\U`: the digits begin at the first offset, and end at
+    /// the second.
     MissingDigit(usize, usize),
 }
 

@@ -1,4 +1,5 @@
-//! The lines of a text, one after the other: 64 bytes are read at once, however many lines they hold.
+//! The lines of a text, one after the other: 64 bytes are read at once, however many lines they
+//! hold.
 #![tactic(auto, using(crate::proofs::Counted::cuts))]
 
 ghost use Rattle.std.specs.Prelude.{◌≡◌, ◌+◌, ◌<◌, ◌≤◌, List, ℕ, length, drop, take};
@@ -10,7 +11,8 @@ use crate::lines::{before_feed, measure_long_line};
 use crate::{from, line_end_len};
 use std::simd::prelude::*;
 
-/// Which of the first bytes of a text are line feeds, and which are braces: bit `k` is that of byte `k`.
+/// Which of the first bytes of a text are line feeds, and which are braces: bit `k` is that of byte
+/// `k`.
 #[derive(Clone, Copy)]
 pub struct LineMasks {
     /// How many bytes were read: at most 64.

@@ -12,9 +12,9 @@ use std::alloc::{AllocError, Global};
 use std::borrow::CowStr;
 use std::fmt;
 
-/// Writes what the raw text of a string literal stands for: each escape's character in its place. U+FFFD stands for an
-/// escape that has no meaning. The escapes are those of production `StringLiteral`; `\u` takes four hex digits and `\U`
-/// six.
+/// Writes what the raw text of a string literal stands for: each escape's character in its place.
+/// U+FFFD stands for an escape that has no meaning. The escapes are those of production
+/// `StringLiteral`; `\u` takes four hex digits and `\U` six.
 ///
 /// # Errors
 /// [`fmt::Error`] if the writer refuses a piece; it then holds the pieces before that one.
@@ -33,8 +33,9 @@ pub fn unescape_unicode<W: TextWrite>(w: &mut W, text: &str) -> fmt::Result
     w.write_str(rest)
 }
 
-/// What the raw text of a string literal stands for, as [`unescape_unicode`] writes it. A text without a backslash is
-/// borrowed, which doesn't allocate, and succeeds; any other is a text of its own.
+/// What the raw text of a string literal stands for, as [`unescape_unicode`] writes it. A text
+/// without a backslash is borrowed, which doesn't allocate, and succeeds; any other is a text of
+/// its own.
 ///
 /// ```no_run
 /// let text = unescape_unicode_to_string(rt.alloc(), "caf\\u00e9")?;

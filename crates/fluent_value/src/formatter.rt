@@ -43,7 +43,8 @@ pub trait ValueFormatter<C: FluentType, M> {
             ≡ formats self.now plurals.now (value_view C.meaning value.now)) };
 }
 
-/// The type that stands in for a program without a formatter. Its one value has no text for any value.
+/// The type that stands in for a program without a formatter. Its one value has no text for any
+/// value.
 ///
 /// ```
 /// type Bundle<'r, 's> = FluentBundle<'r, 's, EnglishPlurals, Day, IsOpen, NoFormatter, NoTransform>;

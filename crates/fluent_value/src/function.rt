@@ -37,7 +37,8 @@ pub trait FluentFunction<C: FluentType> {
         ensures { IfOk result (IsCallResult C.meaning (gives self.now) positional.now named.now) };
 }
 
-/// The type that stands in for a program without functions of its own. Its one value gives an error.
+/// The type that stands in for a program without functions of its own. Its one value gives an
+/// error.
 ///
 /// ```
 /// type Bundle<'r, 's> = FluentBundle<'r, 's, EnglishPlurals, NoCustom, NoFunction, Hidden>;

@@ -15,9 +15,10 @@ use fluent_number::{
 impl<'a, C: FluentType> FluentValue<'a, C> {
     /// Whether a variant with this key is chosen by a selector of that value.
     ///
-    /// So it is for two texts that are the same, and for two numbers of the same value and options. A key that is a text
-    /// also matches a number: if it is `zero`, `one`, `two`, `few`, `many` or `other`, the category that the scope
-    /// gives for the number. No other two values match. It doesn't allocate.
+    /// So it is for two texts that are the same, and for two numbers of the same value and options.
+    /// A key that is a text also matches a number: if it is `zero`, `one`, `two`, `few`, `many` or
+    /// `other`, the category that the scope gives for the number. No other two values match. It
+    /// doesn't allocate.
     pub fn matches<S: ValueScope<C>>(&self, other: &FluentValue<'_, C>, scope: &S) -> bool
         ensures { result ≡ matches (S.plurals scope.now) (value_view C.meaning self.now)
             (value_view C.meaning other.now) }

@@ -10,9 +10,11 @@ use fluent_number::{PluralCategory, PluralOperands, PluralRuleType, english_cate
 use std::alloc::{AllocError, Global};
 use std::borrow::CowStr;
 
-/// A plural source: the plural rules of a language, and how values of a program's own type are shown in it.
+/// A plural source: the plural rules of a language, and how values of a program's own type are
+/// shown in it.
 ///
-/// The name is that of the Rust crate, whose memoizers keep the formatters that they made. Nothing is cached here.
+/// The name is that of the Rust crate, whose memoizers keep the formatters that they made. Nothing
+/// is cached here.
 ///
 /// ```
 /// polish.category(PluralRuleType::CARDINAL, &PluralOperands::from(count))
@@ -21,7 +23,8 @@ pub trait MemoizerKind {
     /// The category of a number by these rules, from its operands.
     ghost category_of: { Self → Plurals };
 
-    /// The text of a value of a program's own type, from the text that its type gives for a meaning.
+    /// The text of a value of a program's own type, from the text that its type gives for a
+    /// meaning.
     ghost stringified: { Self → (S : Type 0) → (S → List ℕ) → S → List ℕ };
 
     /// The category of a number with these operands by these rules.
@@ -43,8 +46,9 @@ pub trait MemoizerKind {
 
 /// The plural rules of English. Values of a program's own type are shown by their own text.
 ///
-/// Of counts, 1 shown without digits after the point is `one` and all else `other`. Of places, a whole number is `one`,
-/// `two` or `few` if its last digit is 1, 2 or 3 and its last two aren't 11, 12 or 13, and all else is `other`.
+/// Of counts, 1 shown without digits after the point is `one` and all else `other`. Of places, a
+/// whole number is `one`, `two` or `few` if its last digit is 1, 2 or 3 and its last two aren't 11,
+/// 12 or 13, and all else is `other`.
 ///
 /// ```
 /// let mut bundle = Bundle::new(alloc, Vec::new(alloc), EnglishPlurals);

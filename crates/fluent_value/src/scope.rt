@@ -13,8 +13,8 @@ use fluent_number::{PluralCategory, PluralOperands, PluralRuleType};
 use std::alloc::{AllocError, Global};
 use std::borrow::CowStr;
 
-/// What values are compared and shown by: a formatter, which may be absent, and a plural source. A bundle is one, and so is a
-/// scope of it.
+/// What values are compared and shown by: a formatter, which may be absent, and a plural source. A
+/// bundle is one, and so is a scope of it.
 ///
 /// ```no_run
 /// /// Whether 1 is `one` by the plural rules of a scope.
@@ -35,8 +35,8 @@ pub trait ValueScope<C: FluentType> {
     /// The text of a value of the program's own type.
     ghost shown: { Self → C.Meaning → List ℕ };
 
-    /// The formatter's text of a value, if a formatter is set and answers one. If none is set the call doesn't
-    /// allocate, and succeeds.
+    /// The formatter's text of a value, if a formatter is set and answers one. If none is set the
+    /// call doesn't allocate, and succeeds.
     ///
     /// # Errors
     /// [`AllocError`] if memory runs out; nothing is kept.

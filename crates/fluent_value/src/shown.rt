@@ -29,8 +29,8 @@ fn digits_alone(number: &FluentNumber) -> Option<u64>
     Some(number.value.whole())
 }
 
-/// Writes the text of a number. Digits alone are written from a buffer, which takes no memory, in a frame of its own:
-/// the frames of what resolves patterns are to stay small.
+/// Writes the text of a number. Digits alone are written from a buffer, which takes no memory, in a
+/// frame of its own: the frames of what resolves patterns are to stay small.
 #[inline(never)]
 fn write_number<W: TextWrite>(
     w: &mut W,
@@ -51,13 +51,13 @@ fn write_number<W: TextWrite>(
 }
 
 impl<'a, C: FluentType> FluentValue<'a, C> {
-    /// Writes the text that the value is shown as: the formatter's if the scope has one that answers a text; otherwise
-    /// a text as it is, a number by its digits and options, a value of the program's own type by the plural source, and
-    /// nothing for `None` and `Error`.
+    /// Writes the text that the value is shown as: the formatter's if the scope has one that
+    /// answers a text; otherwise a text as it is, a number by its digits and options, a value of
+    /// the program's own type by the plural source, and nothing for `None` and `Error`.
     ///
     /// # Errors
-    /// [`Writer`](WriteError::Writer) if the writer refuses the text, [`Memory`](WriteError::Memory) if memory runs out.
-    /// Nothing is then written.
+    /// [`Writer`](WriteError::Writer) if the writer refuses the text,
+    /// [`Memory`](WriteError::Memory) if memory runs out. Nothing is then written.
     pub fn write<W: TextWrite, S: ValueScope<C>>(
         &self,
         w: &mut W,
@@ -80,8 +80,8 @@ impl<'a, C: FluentType> FluentValue<'a, C> {
         Ok(())
     }
 
-    /// The text that the value is shown as, as [`write`](FluentValue::write) writes it. If no formatter is set, a borrowed
-    /// text stays borrowed, which doesn't allocate, and succeeds.
+    /// The text that the value is shown as, as [`write`](FluentValue::write) writes it. If no
+    /// formatter is set, a borrowed text stays borrowed, which doesn't allocate, and succeeds.
     ///
     /// # Errors
     /// [`AllocError`] if memory runs out; nothing is kept.
@@ -107,8 +107,8 @@ impl<'a, C: FluentType> FluentValue<'a, C> {
 }
 
 impl<'a, C: FluentType + Drop> FluentValue<'a, C> {
-    /// The text that the value is shown as, as [`write`](FluentValue::write) writes it. If no formatter is set, a text is
-    /// returned as it is, which doesn't allocate, and succeeds.
+    /// The text that the value is shown as, as [`write`](FluentValue::write) writes it. If no
+    /// formatter is set, a text is returned as it is, which doesn't allocate, and succeeds.
     ///
     /// # Errors
     /// [`AllocError`] if memory runs out; nothing is kept.

@@ -30,7 +30,8 @@ impl<'a, C: FluentType> From<&'a String> for FluentValue<'a, C> {
     }
 }
 
-/// The text, borrowed. It stays a text if it reads as a number: [`FluentValue::try_number`] makes a number of it.
+/// The text, borrowed. It stays a text if it reads as a number: [`FluentValue::try_number`] makes a
+/// number of it.
 impl<'a, C: FluentType> From<&'a str> for FluentValue<'a, C> {
     ghost from_gives = { λ text value. value_view C.meaning value ≡ a_text text.now };
 

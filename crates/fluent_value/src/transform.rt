@@ -37,7 +37,8 @@ impl TextTransform for Box<dyn TextTransform> {
     }
 }
 
-/// The type that stands in for a program without a transform. Its one value leaves each text as it is.
+/// The type that stands in for a program without a transform. Its one value leaves each text as it
+/// is.
 ///
 /// ```
 /// type Bundle<'r, 's> = FluentBundle<'r, 's, EnglishPlurals, Day, IsOpen, NoFormatter, NoTransform>;

@@ -13,7 +13,8 @@ use fluent_number::FluentNumber;
 use std::alloc::{AllocError, Global};
 use std::borrow::CowStr;
 
-/// A value: an argument of a message, what a function takes or gives, or what a selector is compared by.
+/// A value: an argument of a message, what a function takes or gives, or what a selector is
+/// compared by.
 ///
 /// ```
 /// args.set("name", "Jane")?;
@@ -35,8 +36,8 @@ pub enum FluentValue<'a, C = NoCustom> {
 }
 
 impl<'a, C: FluentType> FluentValue<'a, C> {
-    /// The number that a text is, which asks for as many digits after the point as the text has, or else the text
-    /// itself, borrowed. It doesn't allocate.
+    /// The number that a text is, which asks for as many digits after the point as the text has, or
+    /// else the text itself, borrowed. It doesn't allocate.
     ///
     /// ```
     /// args.set("amount", FluentValue::try_number("3.5"))?;
@@ -84,8 +85,9 @@ impl<'a, C: FluentType> FluentValue<'a, C> {
     }
 }
 
-/// Texts are equal if they are the same, numbers if value and options are, values of the program's own type by
-/// [`FluentType::equals`]. No other two values are equal: `None` and `Error` don't even equal themselves.
+/// Texts are equal if they are the same, numbers if value and options are, values of the program's
+/// own type by [`FluentType::equals`]. No other two values are equal: `None` and `Error` don't even
+/// equal themselves.
 impl<'a, C: FluentType> PartialEq for FluentValue<'a, C> {
     ghost eq = { value_eq C.meaning C.same ⟦<FluentNumber as PartialEq>⟧.eq };
 

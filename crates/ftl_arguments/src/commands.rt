@@ -22,7 +22,8 @@ pub enum Command<'words> {
         isolating: bool,
         /// Whether the last entry of an id counts, and not the first.
         overriding: bool,
-        /// The tag of the locale whose plural rules choose variants and whose numbers are written, if one is given.
+        /// The tag of the locale whose plural rules choose variants and whose numbers are written,
+        /// if one is given.
         locale: Option<&'words str>,
         /// Whether numbers are written plainly, whatever the locale.
         plain_numbers: bool,
@@ -58,7 +59,8 @@ pub struct Format<'words> {
     pub isolating: bool,
     /// Whether the last entry of an id counts, and not the first.
     pub overriding: bool,
-    /// The tag of the locale whose plural rules choose variants and whose numbers are written, if one is given.
+    /// The tag of the locale whose plural rules choose variants and whose numbers are written, if
+    /// one is given.
     pub locale: Option<&'words str>,
     /// Whether numbers are written plainly, whatever the locale.
     pub plain_numbers: bool,

@@ -1,7 +1,7 @@
 //! What other programs call options and commands that `ftl` calls otherwise.
 
-/// What may be meant by a word that a command doesn't know, in words that a pointer to the help may follow. Without a
-/// command it is a command's name.
+/// What may be meant by a word that a command doesn't know, in words that a pointer to the help may
+/// follow. Without a command it is a command's name.
 pub(crate) fn meant_by(command: &str, word: &str) -> Option<&'static str> {
     match command {
         "" => command_meant(word),

@@ -48,8 +48,9 @@ pub(crate) const CODES: [&str; 25] = [
 /// What was found for `lint`.
 ///
 /// # Errors
-/// [`WordsError::Bad`]: there is no such format or choice of colours; or no finding has such a code, no message can call
-/// such a function, or counts are asked for without a reference. [`WordsError::Memory`]: memory ran out.
+/// [`WordsError::Bad`]: there is no such format or choice of colours; or no finding has such a
+/// code, no message can call such a function, or counts are asked for without a reference.
+/// [`WordsError::Memory`]: memory ran out.
 pub(crate) fn lint_in<'words>(
     alloc: Global,
     found: &ArgMatches<'words>,
@@ -77,7 +78,8 @@ pub(crate) fn lint_in<'words>(
     })
 }
 
-/// The command: on the files that the paths stand for, or on standard input if a hyphen is the only path.
+/// The command: on the files that the paths stand for, or on standard input if a hyphen is the only
+/// path.
 pub(crate) fn linting(lint: Lint<'_>) -> Command<'_>
     ensures { command_view result ≡ linting (lint_view lint.entry) }
 {

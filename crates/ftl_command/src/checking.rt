@@ -16,10 +16,12 @@ use fluent_serve::stream::Sink;
 use ftl_files::Folder;
 use std::alloc::Global;
 
-/// Writes a line for each error of the sources in `files`, and then one for each entry whose id was there.
+/// Writes a line for each error of the sources in `files`, and then one for each entry whose id was
+/// there.
 ///
 /// # Errors
-/// The first fault. After [`Fault::Output`] a front of the report was written, and after another fault nothing.
+/// The first fault. After [`Fault::Output`] a front of the report was written, and after another
+/// fault nothing.
 pub fn check_files<'words, F: Folder, O: Sink>(
     folder: &mut F,
     alloc: Global,

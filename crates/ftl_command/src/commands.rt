@@ -132,9 +132,10 @@ pub fn program_on<F: Folder, I: Source, O: Sink, T: Sink>(
     }
 }
 
-/// Does what the command-line arguments ask for. They are read first, then a run's locale is looked up, then the
-/// files are read in their order, and for a run then the request lines that `reader` gives, or for `tidy -` and `lint -`
-/// its source: see `docs/reference/protocol.md`. If the words ask for help or for the version, that is written.
+/// Does what the command-line arguments ask for. They are read first, then a run's locale is looked
+/// up, then the files are read in their order, and for a run then the request lines that `reader`
+/// gives, or for `tidy -` and `lint -` its source: see `docs/reference/protocol.md`. If the words
+/// ask for help or for the version, that is written.
 ///
 /// # Errors
 /// The first fault. What was written before it stays written.
@@ -146,16 +147,17 @@ pub fn run_command<'words, F: Folder, I: Source, O: Sink>(
     reader: &mut I,
     writer: &mut O,
 ) -> Result<Ended, Fault<'words>>
-    // What is asked for is done. A run writes what it would write from whatever its sources are tidied into, too. What was written
-    // before a fault stays written.
+    // What is asked for is done. A run writes what it would write from whatever its sources are
+    // tidied into, too. What was written before a fault stays written.
     ensures ended { CommandEndsOn F.Folder folder.old I.Source reader.old reader.new
         O.Sink writer.old writer.new (command_of colours (texts words.now)) result }
     ensures help { AnswersHelp O.Sink writer.old writer.new
         colours (texts words.now) result }
     ensures devices { DevicesEnd F.Folder folder.old folder.new I.Source reader.old reader.new
         O.Sink writer.old writer.new (command_of colours (texts words.now)) result }
-    // Files that are tidied in place hold their tidy texts, and no other file changes. What is linted are the files that the
-    // paths stand for, but for those that can't be read, which are reported.
+    // Files that are tidied in place hold their tidy texts, and no other file changes. What is
+    // linted are the files that the paths stand for, but for those that can't be read, which are
+    // reported.
     ensures files { FilesEndFor F.Folder folder.old folder.new I.Source reader.old reader.new
         O.Sink writer.old writer.new colours words.now result }
     ensures no_input { WithoutInput (command_of colours (texts words.now))

@@ -12,18 +12,21 @@ pub enum Ended {
     Done,
     /// It is done, and what was found in the sources makes the status 1.
     Found,
-    /// It is done, and these are the lines of what went wrong in a text or was found in files, if that isn't written already.
+    /// It is done, and these are the lines of what went wrong in a text or was found in files, if
+    /// that isn't written already.
     Incomplete { errors: String },
     /// A path stands for no file, and these are the lines of that and of what was found.
     NoFile { errors: String },
     /// Files could not be read or written, and these are the lines of that and of the rest.
     Partial { errors: String },
-    /// Memory ran out for sources, or they nest too deep, and these are the lines of that and of the rest.
+    /// Memory ran out for sources, or they nest too deep, and these are the lines of that and of
+    /// the rest.
     OutOfMemory { errors: String },
 }
 
 impl Ended {
-    /// The end of files of which these errors are reported, and in which something was found or not. What is worst counts.
+    /// The end of files of which these errors are reported, and in which something was found or
+    /// not. What is worst counts.
     pub(crate) fn of_files(reported: Reported, has_found: bool, errors: String) -> Ended
         ensures { EndsOf reported has_found (string_bytes errors) result }
     {

@@ -25,8 +25,8 @@ pub enum Fault<'words> {
     NotTree,
     /// The file's text isn't JSON, or is nested too deep.
     NotJson,
-    /// The message that is asked for has no such value or attribute, or there is none. The line asks
-    /// what may be meant.
+    /// The message that is asked for has no such value or attribute, or there is none. The line
+    /// asks what may be meant.
     NoMessage {
         meant: Option<String>,
     },
@@ -38,8 +38,8 @@ pub enum Fault<'words> {
     UnknownLocale {
         tag: &'words str,
     },
-    /// The file could not be opened, or a read of it failed; and maybe why, and what may be meant by
-    /// its name.
+    /// The file could not be opened, or a read of it failed; and maybe why, and what may be meant
+    /// by its name.
     FileUnreadable {
         file: &'words str,
         why: Option<&'static str>,
@@ -98,7 +98,8 @@ impl<'words> Fault<'words> {
         }
     }
 
-    /// The name of the locale or the file that is at fault, or otherwise an empty text; and what follows it.
+    /// The name of the locale or the file that is at fault, or otherwise an empty text; and what
+    /// follows it.
     pub(crate) fn parts(&self) -> (&'words str, &'static str)
         ensures { result.0.now ++ result.1.now ≡ fault_text self.now }
     {

@@ -13,8 +13,8 @@ use std::alloc::Global;
 /// Reads the files, a text for each, in their order.
 ///
 /// # Errors
-/// For the first file that has no text: [`Fault::FileUnreadable`] if it can't be read, [`Fault::FileNotUtf8`] if it
-/// isn't UTF-8. [`Fault::Memory`] if memory runs out; nothing is kept.
+/// For the first file that has no text: [`Fault::FileUnreadable`] if it can't be read,
+/// [`Fault::FileNotUtf8`] if it isn't UTF-8. [`Fault::Memory`] if memory runs out; nothing is kept.
 pub fn read_text_files<'words, F: Folder>(
     folder: &mut F,
     alloc: Global,
@@ -37,8 +37,8 @@ pub fn read_text_files<'words, F: Folder>(
 /// Reads one file.
 ///
 /// # Errors
-/// [`Fault::Memory`] if memory runs out; nothing is kept. [`Fault::FileUnreadable`] if the file can't be read.
-/// [`Fault::FileNotUtf8`] if it isn't UTF-8.
+/// [`Fault::Memory`] if memory runs out; nothing is kept. [`Fault::FileUnreadable`] if the file
+/// can't be read. [`Fault::FileNotUtf8`] if it isn't UTF-8.
 pub fn read_text_file<'words, F: Folder>(
     folder: &mut F,
     alloc: Global,

@@ -23,11 +23,13 @@ use ftl_arguments::Format;
 use ftl_files::Folder;
 use std::alloc::{AllocError, Global};
 
-/// Writes the text of the message that is asked for, and a line feed. What went wrong in the text is in the end.
+/// Writes the text of the message that is asked for, and a line feed. What went wrong in the text
+/// is in the end.
 ///
 /// # Errors
-/// The first failure: an unknown locale is found before any file is read, and a missing message after all are. After
-/// [`Fault::Output`] a front of the text was written, and after another fault nothing.
+/// The first failure: an unknown locale is found before any file is read, and a missing message
+/// after all are. After [`Fault::Output`] a front of the text was written, and after another fault
+/// nothing.
 pub fn write_formatted<'words, F: Folder, O: Sink>(
     folder: &mut F,
     alloc: Global,

@@ -13,11 +13,12 @@ use ftl_arguments::TidyFiles;
 use ftl_files::{Folder, TidiedFiles, tidy_files};
 use std::alloc::Global;
 
-/// Tidies files in place, and writes the names of those that changed. What could not be tidied is in the end.
+/// Tidies files in place, and writes the names of those that changed. What could not be tidied is
+/// in the end.
 ///
 /// # Errors
-/// [`Fault::Memory`] if memory runs out: the first files are tidied, and nothing is written. After [`Fault::Output`] all
-/// are, and a front of the names was written.
+/// [`Fault::Memory`] if memory runs out: the first files are tidied, and nothing is written. After
+/// [`Fault::Output`] all are, and a front of the names was written.
 pub fn tidy_in_place<'words, F: Folder, O: Sink>(
     folder: &mut F,
     alloc: Global,

@@ -24,12 +24,13 @@ const BLOCK: usize = 65_536;
 /// How many calls of `read` are made at most.
 const READS: u64 = 4_294_967_296;
 
-/// Reads standard input to its end, and writes its tidy text. If it is only checked, its name is written if it isn't
-/// tidy. A source that has no tidy text is reported in the end, and nothing is written.
+/// Reads standard input to its end, and writes its tidy text. If it is only checked, its name is
+/// written if it isn't tidy. A source that has no tidy text is reported in the end, and nothing is
+/// written.
 ///
 /// # Errors
-/// [`Fault::Memory`] if memory runs out, and [`Fault::Input`] if the reader fails or comes to no end: nothing is
-/// written. [`Fault::Output`] if the writer fails; a front of the text was written.
+/// [`Fault::Memory`] if memory runs out, and [`Fault::Input`] if the reader fails or comes to no
+/// end: nothing is written. [`Fault::Output`] if the writer fails; a front of the text was written.
 pub fn tidy_input<'words, I: Source, O: Sink>(
     alloc: Global,
     check: bool,

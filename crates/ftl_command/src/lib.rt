@@ -1,11 +1,12 @@
 //! The command `ftl`: its commands, its files, its streams and its faults.
 //!
-//! [`program`] does what the command-line arguments ask for, and returns the status that it ends with. These arguments
-//! are read by [`command`].
+//! [`program`] does what the command-line arguments ask for, and returns the status that it ends
+//! with. These arguments are read by [`command`].
 //!
 //! The text of one message of Fluent sources, as `ftl format` writes it.
 //!
-//! [`format_message`] returns the text with a line feed, and a line for each error, as `ftl: Unknown variable: $name`.
+//! [`format_message`] returns the text with a line feed, and a line for each error, as
+//! `ftl: Unknown variable: $name`.
 #![tactic(auto)]
 
 pub mod borrowed;

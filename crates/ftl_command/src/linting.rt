@@ -22,12 +22,12 @@ use ftl_arguments::Lint;
 use ftl_files::{Folder, ReadSources, Reported, read_sources};
 use std::alloc::{AllocError, Global};
 
-/// Writes what is found in the catalog in files, and those below folders. A file that can't be read is reported in the
-/// end, as a path that stands for no file is, and the report is on the others.
+/// Writes what is found in the catalog in files, and those below folders. A file that can't be read
+/// is reported in the end, as a path that stands for no file is, and the report is on the others.
 ///
 /// # Errors
-/// The first fault: an unknown locale is found before any file is read. After [`Fault::Output`] a front of the report was
-/// written, and after another fault nothing.
+/// The first fault: an unknown locale is found before any file is read. After [`Fault::Output`] a
+/// front of the report was written, and after another fault nothing.
 pub fn lint_files<'words, F: Folder, O: Sink>(
     folder: &mut F,
     alloc: Global,
@@ -46,12 +46,13 @@ pub fn lint_files<'words, F: Folder, O: Sink>(
     Ok(end_of(linted))
 }
 
-/// Writes what is found in standard input, which is the catalog. The files of the reference are read before it. If it isn't
-/// UTF-8 or nests too deep, that is reported in the end, and the report is on no file.
+/// Writes what is found in standard input, which is the catalog. The files of the reference are
+/// read before it. If it isn't UTF-8 or nests too deep, that is reported in the end, and the report
+/// is on no file.
 ///
 /// # Errors
-/// The first fault: an unknown locale is found before anything is read. After [`Fault::Output`] a front of the report was
-/// written, and after another fault nothing.
+/// The first fault: an unknown locale is found before anything is read. After [`Fault::Output`] a
+/// front of the report was written, and after another fault nothing.
 pub fn lint_input<'words, F: Folder, I: Source, O: Sink>(
     folder: &mut F,
     alloc: Global,
@@ -94,7 +95,8 @@ fn end_of(linted: Linted) -> Ended
     Ended::of_files(reported, report.has_failed, errors)
 }
 
-/// The report on the files that the paths stand for: those of the reference are read before those of the catalog.
+/// The report on the files that the paths stand for: those of the reference are read before those
+/// of the catalog.
 fn report_paths<'words, F: Folder>(
     folder: &mut F,
     alloc: Global,

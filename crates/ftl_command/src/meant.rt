@@ -145,8 +145,9 @@ fn near_attribute(
     Ok(None)
 }
 
-/// Whether a name is one slip of the keyboard away from a known one, as for the hints of `lint`: two neighbouring
-/// characters are swapped, or one is left out, replaced or added. A name of fewer than 3 or more than 64 characters is not.
+/// Whether a name is one slip of the keyboard away from a known one, as for the hints of `lint`:
+/// two neighbouring characters are swapped, or one is left out, replaced or added. A name of fewer
+/// than 3 or more than 64 characters is not.
 fn is_slip(alloc: Global, name: &str, known: &str) -> Result<bool, AllocError> {
     let (length, other) = (name.len(), known.len());
     if !(3..=64).contains(&length) || length.abs_diff(other) > 1 {

@@ -19,8 +19,8 @@ pub struct Formatted {
     pub errors: String,
 }
 
-/// The text of a message of `sources`, or of its first attribute of a name. `None` if there is no such message, value or
-/// attribute. An argument whose text is a number is that number.
+/// The text of a message of `sources`, or of its first attribute of a name. `None` if there is no
+/// such message, value or attribute. An argument whose text is a number is that number.
 ///
 /// # Errors
 /// [`AllocError`] if memory runs out; nothing is kept.

@@ -12,7 +12,8 @@ use fluent_serve::stream::Sink;
 /// Writes a text to a stream.
 ///
 /// # Errors
-/// [`Fault::Output`] if the writer fails, or takes none of a piece that isn't empty; a front of the text was written.
+/// [`Fault::Output`] if the writer fails, or takes none of a piece that isn't empty; a front of the
+/// text was written.
 pub fn write_to_stream<'words, O: Sink>(writer: &mut O, text: &str) -> Result<(), Fault<'words>>
     ensures written { OnOk result
         (Appends (O.contents writer.old) (O.contents writer.new) text.now) }
@@ -31,7 +32,8 @@ pub fn write_to_stream<'words, O: Sink>(writer: &mut O, text: &str) -> Result<()
 /// Writes a text that the words ask for, of help or of the version, and ends with that.
 ///
 /// # Errors
-/// [`Fault::Output`] if the writer fails, or takes none of a piece that isn't empty; a front of the text was written.
+/// [`Fault::Output`] if the writer fails, or takes none of a piece that isn't empty; a front of the
+/// text was written.
 pub fn write_asked<'words, O: Sink>(writer: &mut O, text: &str) -> Result<Ended, Fault<'words>>
     ensures ended { IfOk result (λ end. end ≡ Ended.Done) }
     ensures written { OnOk result

@@ -1,4 +1,5 @@
-//! What the locale of a run decides: the plural rules that choose variants, and how numbers are written.
+//! What the locale of a run decides: the plural rules that choose variants, and how numbers are
+//! written.
 ghost use Rattle.std.specs.Prelude.{◌≡◌, IfOk, IfErr, Some, option_map};
 ghost use Rattle.ftl_command.specs.Faults.{IsOfLocale, SaysUnknown};
 ghost use Rattle.fluent_numerals.specs.Views.{locale_view};
@@ -52,8 +53,9 @@ pub struct RunRules {
 }
 
 impl RunRules {
-    /// What the locale with this tag decides. Without one the plural rules are those of English, and numbers are written plainly;
-    /// so they are, too, if that is asked for, or if CLDR doesn't say how the locale writes them.
+    /// What the locale with this tag decides. Without one the plural rules are those of English,
+    /// and numbers are written plainly; so they are, too, if that is asked for, or if CLDR doesn't
+    /// say how the locale writes them.
     ///
     /// # Errors
     /// [`Fault::UnknownLocale`] if the locale has no plural rules.
@@ -74,7 +76,8 @@ impl RunRules {
     }
 }
 
-/// How the locale with this tag writes numbers, if there is one and CLDR knows, and if they aren't to be plain.
+/// How the locale with this tag writes numbers, if there is one and CLDR knows, and if they aren't
+/// to be plain.
 fn numerals_of(locale: Option<&str>, plain: bool) -> Option<LocaleNumerals>
     ensures { option_map locale_view result ≡ numerals_asked plain (option_map (λ tag. tag.now) locale.entry) }
 {

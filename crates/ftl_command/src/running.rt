@@ -19,17 +19,19 @@ pub struct RunOptions<'words> {
     pub isolating: bool,
     /// Whether the last entry of an id counts, and not the first.
     pub overriding: bool,
-    /// The tag of the locale whose plural rules choose variants and whose numbers are written, if one is given.
+    /// The tag of the locale whose plural rules choose variants and whose numbers are written, if
+    /// one is given.
     pub locale: Option<&'words str>,
     /// Whether numbers are written plainly, whatever the locale.
     pub plain_numbers: bool,
 }
 
-/// Answers the request lines of `reader` from the sources in `files`. Without a locale the plural rules are those of English, and
-/// numbers are written plainly.
+/// Answers the request lines of `reader` from the sources in `files`. Without a locale the plural
+/// rules are those of English, and numbers are written plainly.
 ///
 /// # Errors
-/// The first failure: an unknown locale is found before any file is read. What was written before it stays written.
+/// The first failure: an unknown locale is found before any file is read. What was written before
+/// it stays written.
 pub fn run_files<'words, F: Folder, I: Source, O: Sink>(
     folder: &mut F,
     alloc: Global,
@@ -39,8 +41,8 @@ pub fn run_files<'words, F: Folder, I: Source, O: Sink>(
     writer: &mut O,
 ) -> Result<Ended, Fault<'words>>
     ensures ended { IfOk result (λ end. end ≡ Ended.Done) }
-    // The lines are answered, and as they would be from whatever the sources are tidied into. What was answered before a fault
-    // stays written.
+    // The lines are answered, and as they would be from whatever the sources are tidied into. What
+    // was answered before a fault stays written.
     ensures ran { RunEndsOn F.Folder folder.old I.Source reader.old reader.new
         O.Sink writer.old writer.new (run_of options.entry files.now) result }
     ensures opens { OnOk result (F.failures folder.new ≡ F.failures folder.old) }

@@ -14,8 +14,8 @@ use fluent_serve::stream::{FromWrite, Sink, WriteFailed};
 use std::alloc::Global;
 use std::io;
 
-/// Reports a failure on one line, and returns the program's status. It doesn't allocate. If `faults` fails, only the
-/// status reports it.
+/// Reports a failure on one line, and returns the program's status. It doesn't allocate. If
+/// `faults` fails, only the status reports it.
 pub fn tell<F: io::Write + Drop>(faults: F, fault: &Fault<'_>) -> u8
     ensures status { result ≡ status_of fault.now }
     ensures told { ReportsOver (F.contents faults) fault.now }
@@ -57,8 +57,8 @@ pub(crate) fn shown_reason(alloc: Global, fault: &Fault<'_>, is_shown: bool) -> 
     }
 }
 
-/// Reports what went wrong in a text, if anything did, and returns the program's status. If `faults` fails, only the
-/// status reports it.
+/// Reports what went wrong in a text, if anything did, and returns the program's status. If
+/// `faults` fails, only the status reports it.
 pub fn tell_errors_on<S: Sink>(faults: &mut S, end: &Ended) -> u8
     ensures status { result ≡ end_status end.now }
     ensures told { ReportsErrors (seen S.contents S.failures faults.old faults.new) end.now }

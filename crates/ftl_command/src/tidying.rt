@@ -25,7 +25,8 @@ use std::alloc::{AllocError, Global};
 /// Writes what the sources' files are tidied into.
 ///
 /// # Errors
-/// The first fault. After [`Fault::Output`] a front of the text was written, and after another fault nothing.
+/// The first fault. After [`Fault::Output`] a front of the text was written, and after another
+/// fault nothing.
 pub fn write_tidied<'words, F: Folder, O: Sink>(
     folder: &mut F,
     alloc: Global,

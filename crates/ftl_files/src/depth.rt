@@ -9,7 +9,8 @@ use lint_finding::SourcePosition;
 use memchr::memchr2_iter;
 use std::alloc::{AllocError, Global};
 
-/// How many braces and parentheses never nest too deep: each takes 2,900 bytes of the machine's stack at most.
+/// How many braces and parentheses never nest too deep: each takes 2,900 bytes of the machine's
+/// stack at most.
 const SHALLOW: usize = 2_000;
 
 /// The line that says that the source of a file nests too deep, if it does.
@@ -33,7 +34,8 @@ pub(crate) fn depth_report(
     }
 }
 
-/// Whether a source has too few braces and parentheses to nest too deep. If so, it isn't read for that.
+/// Whether a source has too few braces and parentheses to nest too deep. If so, it isn't read for
+/// that.
 fn is_shallow(source: &str) -> bool {
     memchr2_iter(b'{', b'(', source.as_bytes())
         .take(SHALLOW)
@@ -60,8 +62,8 @@ fn deep_line(alloc: Global, source: &str) -> Option<usize>
     Some(SourcePosition::start().moved_to(source, start).line())
 }
 
-/// Where the first part of a source begins that nests too deep by itself. A part goes from a line that begins as messages
-/// and terms do to the next one.
+/// Where the first part of a source begins that nests too deep by itself. A part goes from a line
+/// that begins as messages and terms do to the next one.
 fn deep_start(alloc: Global, source: &str) -> Option<usize>
     ensures { IfSome result (IsDeepAt source.now) }
 {

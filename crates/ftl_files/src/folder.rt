@@ -1,7 +1,8 @@
 //! Where the sources' files lie.
 //!
-//! Contracts see what the files of a `Folder` hold and which files lie below a name, if that is known, and how many of
-//! its calls have failed. `FromFiles` makes one of the system's files, of which nothing is known.
+//! Contracts see what the files of a `Folder` hold and which files lie below a name, if that is
+//! known, and how many of its calls have failed. `FromFiles` makes one of the system's files, of
+//! which nothing is known.
 ghost use Rattle.std.specs.Prelude.{◌≡◌, ◌⊎◌, ℕ, List, [], Option, IfOk, IfSome, OnOk, OnErr};
 ghost use Rattle.ftl_files.specs.Files.{IsListed, IsReplaced, failures_after_file, failures_after_replace};
 ghost use Rattle.ftl_files.specs.Listing.{listed_names};
@@ -36,7 +37,8 @@ pub enum FileError {
 pub enum ReplaceError {
     /// Memory ran out before anything was written.
     Memory,
-    /// The file can't be written, no new file could be made beside it, or it holds something else than when it was read.
+    /// The file can't be written, no new file could be made beside it, or it holds something else
+    /// than when it was read.
     Unwritable,
 }
 
@@ -66,19 +68,19 @@ pub trait Folder {
     /// The bytes that the file of a name holds, if they are known.
     ghost contents: { Self → List ℕ → Option (List ℕ) };
 
-    /// The names of the sources below a folder of this name, and then those of the folders below it that can't be listed;
-    /// of anything else the name alone; if they are known.
+    /// The names of the sources below a folder of this name, and then those of the folders below it
+    /// that can't be listed; of anything else the name alone; if they are known.
     ghost sources: { Self → List ℕ → Option (List (List ℕ)) };
 
-    /// How many reads, lists and replacements have failed, not counting those for which memory ran out. At the greatest
-    /// `u64` the count stays there.
+    /// How many reads, lists and replacements have failed, not counting those for which memory ran
+    /// out. At the greatest `u64` the count stays there.
     ghost failures: { Self → ℕ };
 
     /// Reads a file to its end. The files stay as they are.
     ///
     /// # Errors
-    /// [`FileError::Memory`] if memory runs out; nothing is kept. [`FileError::Unreadable`] if the file can't be opened, or
-    /// a read of it fails.
+    /// [`FileError::Memory`] if memory runs out; nothing is kept. [`FileError::Unreadable`] if the
+    /// file can't be opened, or a read of it fails.
     fn read(&mut self, alloc: Global, name: &str) -> Result<Vec<u8>, FileError>
         ensures held { IfOk result (λ bytes.
             IfSome (contents self.old name.now) (λ held. bytes.items ≡ held)) }
@@ -86,17 +88,19 @@ pub trait Folder {
         ensures same_sources { sources self.new ≡ sources self.old }
         ensures failed { failures self.new ≡ failures_after_file (failures self.old) result };
 
-    /// Why the last call that failed did, in words, if that is known: `no such file`, `is a folder`, `no permission`,
-    /// `no space left`, `a read-only file system`, `its name is too long` or `changed while it was tidied`.
+    /// Why the last call that failed did, in words, if that is known: `no such file`,
+    /// `is a folder`, `no permission`, `no space left`, `a read-only file system`,
+    /// `its name is too long` or `changed while it was tidied`.
     fn why(&self) -> Option<&'static str>;
 
-    /// Lists the files below a folder whose names end in `.ftl`, by the bytes of their paths, each beginning with the name
-    /// of the folder, and the folders below it that can't be listed. A name that isn't a folder's is listed alone. Links to
-    /// folders aren't followed. The files stay as they are.
+    /// Lists the files below a folder whose names end in `.ftl`, by the bytes of their paths, each
+    /// beginning with the name of the folder, and the folders below it that can't be listed. A name
+    /// that isn't a folder's is listed alone. Links to folders aren't followed. The files stay as
+    /// they are.
     ///
     /// # Errors
-    /// [`FileError::Memory`] if memory runs out; nothing is kept. [`FileError::Unreadable`] if the folder itself can't be
-    /// listed.
+    /// [`FileError::Memory`] if memory runs out; nothing is kept. [`FileError::Unreadable`] if the
+    /// folder itself can't be listed.
     fn list(&mut self, alloc: Global, name: &str) -> Result<Listing, FileError>
         ensures listed { IfOk result (λ listing.
             IfSome (sources self.old name.now) (λ all. listed_names listing ≡ all)) }
@@ -105,13 +109,13 @@ pub trait Folder {
         ensures same_sources { sources self.new ≡ sources self.old }
         ensures failed { failures self.new ≡ failures_after_file (failures self.old) result };
 
-    /// Replaces what a file holds by these bytes, at once: at any time the file holds what it did or the bytes, whole. No
-    /// other file changes, but for new files that ended replacements left behind. `old` is what the file held when it was
-    /// read.
+    /// Replaces what a file holds by these bytes, at once: at any time the file holds what it did
+    /// or the bytes, whole. No other file changes, though a replacement that is cut off may leave
+    /// a new one. `old` is what the file held when it was read.
     ///
     /// # Errors
-    /// [`ReplaceError::Memory`] if memory runs out, [`ReplaceError::Unwritable`] if the file can't be written, or holds
-    /// something else than `old`. The file is as it was.
+    /// [`ReplaceError::Memory`] if memory runs out, [`ReplaceError::Unwritable`] if the file can't
+    /// be written, or holds something else than `old`. The file is as it was.
     fn replace(
         &mut self,
         alloc: Global,

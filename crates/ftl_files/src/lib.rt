@@ -1,7 +1,8 @@
 //! Files by their names: what the program reads, lists and replaces.
 //!
-//! [`Folder`] is what the commands ask. [`FromFiles`] makes one of the system's files. [`read_sources`] reads
-//! files, and those below folders. [`tidy_files`] tidies them in place, as `ftl tidy` does.
+//! [`Folder`] is what the commands ask. [`FromFiles`] makes one of the system's files.
+//! [`read_sources`] reads files, and those below folders. [`tidy_files`] tidies them in place, as
+//! `ftl tidy` does.
 #![tactic(auto)]
 
 mod causes;

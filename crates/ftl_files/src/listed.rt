@@ -60,7 +60,8 @@ impl Listed {
     }
 }
 
-/// The files that paths stand for, in their order, each with the folders below that can't be listed.
+/// The files that paths stand for, in their order, each with the folders below that can't be
+/// listed.
 pub(crate) fn list_paths<F: Folder>(
     folder: &mut F,
     alloc: Global,
@@ -77,7 +78,8 @@ pub(crate) fn list_paths<F: Folder>(
     Ok(listed)
 }
 
-/// What a path stands for. One that can't be listed itself is listed as a folder below that can't be.
+/// What a path stands for. One that can't be listed itself is listed as a folder below that can't
+/// be.
 fn list_path<F: Folder>(folder: &mut F, alloc: Global, path: &str) -> Result<Listing, AllocError>
     ensures listed { IfOk result (IsListedOn F.Folder path.now folder.old folder.new) }
     ensures kept { F.contents folder.new ≡ F.contents folder.old }

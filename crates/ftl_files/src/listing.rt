@@ -11,11 +11,13 @@ use std::io;
 use std::io::ErrorKind;
 use std::rt::Files;
 
-/// The files below a folder whose names end in `.ftl`, and the folders below it that can't be listed, each by the bytes of
-/// their paths; of anything else the name alone. If a folder below can't be listed, `why` becomes the reason, in words.
+/// The files below a folder whose names end in `.ftl`, and the folders below it that can't be
+/// listed, each by the bytes of their paths; of anything else the name alone. If a folder below
+/// can't be listed, `why` becomes the reason, in words.
 ///
 /// # Errors
-/// What the system says of a folder that can't be listed itself, or that memory ran out; nothing is kept.
+/// What the system says of a folder that can't be listed itself, or that memory ran out; nothing is
+/// kept.
 pub(crate) fn list_sources<R: Files>(
     files: &R,
     alloc: Global,

@@ -27,8 +27,8 @@ pub struct SourceFile {
 pub struct ReadSources {
     /// The files that were read, in their order.
     pub files: Vec<SourceFile>,
-    /// A line for each of the others: that could not be read, or nests too deep; and then for each path that stands for no
-    /// file.
+    /// A line for each of the others: that could not be read, or nests too deep; and then for each
+    /// path that stands for no file.
     pub errors: String,
     /// Which errors these lines report.
     pub reported: Reported,
@@ -46,7 +46,8 @@ impl ReadSources {
         }
     }
 
-    /// What is read of a source that is in no file, by its bytes: if they aren't UTF-8, or nest too deep, a line says so.
+    /// What is read of a source that is in no file, by its bytes: if they aren't UTF-8, or nest too
+    /// deep, a line says so.
     ///
     /// # Errors
     /// [`AllocError`] if memory runs out; nothing is kept.
@@ -117,8 +118,9 @@ impl ReadSources {
     }
 }
 
-/// Reads the files that paths stand for, each once, one after the other. Of a file that can't be read, or whose source
-/// nests too deep for that, a line says so, and of a path that stands for no file.
+/// Reads the files that paths stand for, each once, one after the other. Of a file that can't be
+/// read, or whose source nests too deep for that, a line says so, and of a path that stands for no
+/// file.
 ///
 /// # Errors
 /// [`AllocError`] if memory runs out; nothing is kept.

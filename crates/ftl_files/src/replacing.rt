@@ -34,9 +34,10 @@ struct Change<'a> {
     new: &'a [u8],
 }
 
-/// Replaces what a file of the system holds, if that still is `old`. The bytes are written to a new file beside it, which is
-/// then renamed over it: at any time the file is the old one or the new one, whole. Of a link the file that it leads to is
-/// replaced. New files that ended runs left beside it are removed, if they hold a front of the bytes.
+/// Replaces what a file of the system holds, if that still is `old`. The bytes are written to a new
+/// file beside it, which is then renamed over it: at any time the file is the old one or the new
+/// one, whole. Of a link the file that it leads to is replaced. New files that ended runs left
+/// beside it are removed, if they hold a front of the bytes.
 ///
 /// # Errors
 /// Why it isn't replaced; the file is as it was.
@@ -62,7 +63,8 @@ pub(crate) fn replace_file<R: Files>(
     Ok(())
 }
 
-/// A rename replaces a file that nobody may write, too: so it is opened for writing first, and stays as it is.
+/// A rename replaces a file that nobody may write, too: so it is opened for writing first, and
+/// stays as it is.
 fn require_writable<R: Files>(files: &R, path: &str) -> io::Result<()> {
     OpenOptions::new().write(true).open(files, path)?;
     Ok(())
@@ -91,7 +93,8 @@ impl<F: OpenFile + Write + Drop> NewFile<F> {
         Err(Error::from(ErrorKind::AlreadyExists))
     }
 
-    /// Writes the bytes, and renames the new file over the old one. It is removed if that fails, or is done already.
+    /// Writes the bytes, and renames the new file over the old one. It is removed if that fails, or
+    /// is done already.
     fn take_place<R: Files<File = F>>(
         self,
         files: &R,
@@ -140,8 +143,8 @@ fn write_synced<F: OpenFile + Write + Drop>(
     file.sync_all()
 }
 
-/// Renames the new file over the old one, if that holds what it did. Returns whether it did: if another run has replaced it
-/// by the same bytes, nothing is to be done.
+/// Renames the new file over the old one, if that holds what it did. Returns whether it did: if
+/// another run has replaced it by the same bytes, nothing is to be done.
 fn rename_over<R: Files>(
     files: &R,
     alloc: Global,
@@ -168,7 +171,8 @@ fn holds<R: Files>(files: &R, alloc: Global, path: &str, bytes: &[u8]) -> bool {
     read_file(files, alloc, path).is_ok_and(|held| *held == *bytes)
 }
 
-/// Removes the new files that ended runs left, of those whose names were taken: they hold a front of the bytes.
+/// Removes the new files that ended runs left, of those whose names were taken: they hold a front
+/// of the bytes.
 fn remove_left<R: Files>(files: &R, alloc: Global, change: Change, taken: u32) {
     for number in 0..taken {
         if let Ok(path) = name_beside(alloc, change.path, number) {

@@ -11,8 +11,9 @@ use crate::tidied::TidiedFiles;
 use fluent_tidy::tidy;
 use std::alloc::{AllocError, Global};
 
-/// Tidies the files that paths stand for, each once, one after the other, in place; with `check` it changes none. A file
-/// that can't be tidied is reported, and left as it is, and a path that stands for no file is reported.
+/// Tidies the files that paths stand for, each once, one after the other, in place; with `check` it
+/// changes none. A file that can't be tidied is reported, and left as it is, and a path that stands
+/// for no file is reported.
 ///
 /// # Errors
 /// [`AllocError`] if memory runs out: the first files were tidied.

@@ -146,7 +146,8 @@ fn push_variables<'i, 's: 'i>(
     push_variables_by(alloc, &variables, reference, id, found)
 }
 
-/// Adds those of these variables of the message of the catalog. The result is the variables of the reference.
+/// Adds those of these variables of the message of the catalog. The result is the variables of the
+/// reference.
 fn push_variables_by<'i, 's: 'i>(
     alloc: Global,
     variables: &Names<'i>,

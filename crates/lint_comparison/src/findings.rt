@@ -20,8 +20,8 @@ use lint_endless::Names;
 use lint_finding::{CatalogIds, Difference, Finding};
 use std::alloc::{AllocError, Global};
 
-/// How a message of a catalog differs from that of the reference, as findings. The text is the source from the message
-/// on.
+/// How a message of a catalog differs from that of the reference, as findings. The text is the
+/// source from the message on.
 ///
 /// # Errors
 /// [`AllocError`] if memory runs out; nothing is kept.
@@ -51,8 +51,8 @@ pub fn message_findings<'s>(
     )
 }
 
-/// The finding that a catalog has no message of the id of this one, which is of the reference, if it has none. The text
-/// is the source from the message on.
+/// The finding that a catalog has no message of the id of this one, which is of the reference, if
+/// it has none. The text is the source from the message on.
 ///
 /// # Errors
 /// [`AllocError`] if memory runs out; nothing is kept.
@@ -74,7 +74,8 @@ pub fn missing_finding(
     Ok(Some(Difference::MissingMessage.finding(alloc, id, offset, None)?))
 }
 
-/// The findings of these differences of a message, if that of the reference is shown with these variables.
+/// The findings of these differences of a message, if that of the reference is shown with these
+/// variables.
 fn findings_of(
     alloc: Global,
     source: &str,

@@ -1,14 +1,16 @@
 //! What is found of a catalog by its reference, the catalog that it translates.
 //!
-//! [`Reference`] compares the messages of the catalog with those of the reference, [`missing_findings`] lists the
-//! messages of the reference that the catalog hasn't, and [`called_functions`] the functions that the reference calls:
-//! these are known. [`referred_terms`] lists the terms that a catalog refers to. [`message_findings`] lists how a message
-//! differs from that of the reference with the same id, each difference with its place, and an unknown variable with the
-//! known one that may be meant. `Findings.antt` and `ComparisonFindings.antt` of `lint_findings` say which findings they
-//! are and how they go together; `docs/reference/lint.md` has the rules in plain words.
+//! [`Reference`] compares the messages of the catalog with those of the reference,
+//! [`missing_findings`] lists the messages of the reference that the catalog hasn't, and
+//! [`called_functions`] the functions that the reference calls: these are known. [`referred_terms`]
+//! lists the terms that a catalog refers to. [`message_findings`] lists how a message differs from
+//! that of the reference with the same id, each difference with its place, and an unknown variable
+//! with the known one that may be meant. `Findings.antt` and `ComparisonFindings.antt` of
+//! `lint_findings` say which findings they are and how they go together; `docs/reference/lint.md`
+//! has the rules in plain words.
 //!
-//! The variables of a message are its own and those of all messages that it refers to, at any remove: `lint_endless` lists
-//! them. Only a message that differs is gone through for places.
+//! The variables of a message are its own and those of all messages that it refers to, at any
+//! remove: `lint_endless` lists them. Only a message that differs is gone through for places.
 #![tactic(auto)]
 
 mod attributes;

@@ -15,8 +15,8 @@ use lint_entries::{Tile, push_found};
 use lint_finding::{CatalogIds, Finding};
 use std::alloc::{AllocError, Global};
 
-/// The findings of the messages of a source of the reference that a catalog with these ids hasn't. The tiles are those
-/// of the source.
+/// The findings of the messages of a source of the reference that a catalog with these ids hasn't.
+/// The tiles are those of the source.
 ///
 /// # Errors
 /// [`AllocError`] if memory runs out; nothing is kept.

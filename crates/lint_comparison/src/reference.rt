@@ -21,7 +21,8 @@ pub struct Reference<'c, 'r, 's> {
 }
 
 impl Reference<'_, '_, '_> {
-    /// Adds how an entry of a source of the catalog differs from the reference. The text is the source from the entry on.
+    /// Adds how an entry of a source of the catalog differs from the reference. The text is the
+    /// source from the entry on.
     ///
     /// # Errors
     /// [`AllocError`] if memory runs out; nothing is added then.

@@ -8,7 +8,8 @@ ghost use Rattle.lint_endless.specs.Path.{IsSettled, KeepsKnown, is_endless, is_
 use crate::states::{State, Step, mark_endless, next_of};
 use std::alloc::{AllocError, Global};
 
-/// For each node of a graph, whether it leads into a circle or is on one. Each edge is followed at most once.
+/// For each node of a graph, whether it leads into a circle or is on one. Each edge is followed at
+/// most once.
 ///
 /// # Errors
 /// [`AllocError`] if memory runs out; nothing is kept.

@@ -17,7 +17,8 @@ use fluent_ast::{InlineExpression, Resource};
 use lint_finding::CatalogIds;
 use std::alloc::{AllocError, Global};
 
-/// The patterns of a catalog whose references never end, by the names of the references that enter them.
+/// The patterns of a catalog whose references never end, by the names of the references that enter
+/// them.
 ///
 /// ```no_run
 /// let endless = EndlessPatterns::new(alloc, &ids, &trees)?;
@@ -42,8 +43,8 @@ impl<'c, 'r, 's> EndlessPatterns<'c, 'r, 's> {
     ghost use Rattle.lint_endless.specs.Catalog.{AreDeclaredIn};
     ghost use Rattle.lint_endless.specs.EndlessView.{ids_of};
 
-    /// Those of the catalog that has these ids, whose messages and terms are declared in these trees. It takes time in
-    /// proportion to the trees.
+    /// Those of the catalog that has these ids, whose messages and terms are declared in these
+    /// trees. It takes time in proportion to the trees.
     ///
     /// # Errors
     /// [`AllocError`] if memory runs out; nothing is kept.

@@ -71,8 +71,8 @@ impl<'r, 's> EnteredPatterns<'r, 's> {
         Ok(entered)
     }
 
-    /// Adds those that references to the ids of a resource enter, in a catalog with these ids. So all are there once
-    /// each resource of the catalog was added, in any order.
+    /// Adds those that references to the ids of a resource enter, in a catalog with these ids. So
+    /// all are there once each resource of the catalog was added, in any order.
     ///
     /// # Errors
     /// [`AllocError`] if memory runs out; some may be added then.

@@ -13,8 +13,8 @@ use lint_nodes::{Node, name_of};
 use std::alloc::{AllocError, Global};
 use std::collections::HashMap;
 
-/// Indices in a list: by whether a term is named or a message, by its id, and by the name of its attribute if it is
-/// one's.
+/// Indices in a list: by whether a term is named or a message, by its id, and by the name of its
+/// attribute if it is one's.
 #[derive(Drop)]
 pub struct Indices<'s> {
     by_name: HashMap<(bool, &'s str, Option<&'s str>), usize>,

@@ -34,8 +34,8 @@ impl State {
     }
 }
 
-/// A node on the path to the current one. So many of its edges were followed, and all ways along them end. The next edge
-/// is on the path.
+/// A node on the path to the current one. So many of its edges were followed, and all ways along
+/// them end. The next edge is on the path.
 #[derive(Clone, Copy)]
 pub struct Step {
     pub node: usize,

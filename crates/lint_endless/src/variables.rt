@@ -11,8 +11,9 @@ use crate::reached::Reached;
 use fluent_ids::FluentIds;
 use std::alloc::{AllocError, Global};
 
-/// The variables of a message and of all that it refers to, at any remove: first its own, then those of the messages that
-/// it names, then those of the messages that these name, and so on. An id that isn't that of a message has none.
+/// The variables of a message and of all that it refers to, at any remove: first its own, then
+/// those of the messages that it names, then those of the messages that these name, and so on. An
+/// id that isn't that of a message has none.
 ///
 /// Each message is looked up once, so it takes time in proportion to what the message refers to.
 ///

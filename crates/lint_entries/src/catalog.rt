@@ -7,8 +7,9 @@ use lint_endless::EndlessPatterns;
 use lint_finding::CatalogIds;
 use lint_flaws::CommonCategories;
 
-/// What is known of a catalog: what its ids stand for and which of their references never end, what the ids of its
-/// reference stand for, and the plural rules of its language, if missing plural categories are to be found.
+/// What is known of a catalog: what its ids stand for and which of their references never end, what
+/// the ids of its reference stand for, and the plural rules of its language, if missing plural
+/// categories are to be found.
 #[derive(Clone, Copy)]
 pub struct Catalog<'c, 'r, 's> {
     pub endless: &'c EndlessPatterns<'c, 'r, 's>,

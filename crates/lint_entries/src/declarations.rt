@@ -45,7 +45,8 @@ impl<'a> Declarations<'a> {
         }
     }
 
-    /// Adds the declaration of an id at this location. If an earlier one has the id, that one stays.
+    /// Adds the declaration of an id at this location. If an earlier one has the id, that one
+    /// stays.
     ///
     /// # Errors
     /// [`AllocError`] if memory runs out; the declarations are unchanged.
@@ -57,8 +58,8 @@ impl<'a> Declarations<'a> {
         Ok(())
     }
 
-    /// The finding of an entry with this id at an offset: that an earlier entry has the id, or that one of these
-    /// functions has it.
+    /// The finding of an entry with this id at an offset: that an earlier entry has the id, or that
+    /// one of these functions has it.
     ///
     /// # Errors
     /// [`AllocError`] if memory runs out; nothing is kept.

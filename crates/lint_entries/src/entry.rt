@@ -26,8 +26,8 @@ use lint_finding::{Finding, Remark};
 use lint_nodes::{empty_pattern_rest, skip};
 use std::alloc::{AllocError, Global};
 
-/// The findings of a message or a term, but for its id; of other entries there are none. The text is the source from the
-/// entry on.
+/// The findings of a message or a term, but for its id; of other entries there are none. The text
+/// is the source from the entry on.
 ///
 /// # Errors
 /// [`AllocError`] if memory runs out; nothing is kept.
@@ -82,8 +82,8 @@ fn parts_findings<'s>(
     Ok(findings)
 }
 
-/// Adds the findings of the value of an entry, which may have none. The text is the source from the value on. Returns
-/// what follows it.
+/// Adds the findings of the value of an entry, which may have none. The text is the source from the
+/// value on. Returns what follows it.
 fn push_value<'s, 't>(
     alloc: Global,
     catalog: &Catalog<'_, '_, 's>,
@@ -103,7 +103,8 @@ fn push_value<'s, 't>(
     }
 }
 
-/// Adds the findings of the attributes of an entry. The text is the source from the line of the first one on.
+/// Adds the findings of the attributes of an entry. The text is the source from the line of the
+/// first one on.
 fn push_attributes<'s>(
     alloc: Global,
     catalog: &Catalog<'_, '_, 's>,

@@ -21,8 +21,9 @@ use lint_finding::{Finding, Remark};
 use lint_nodes::{Occurrence, pattern_occurrences};
 use std::alloc::{AllocError, Global};
 
-/// Adds the findings of a pattern: whether its references end, at the name that it has, and then those of its nodes. The
-/// text is the source from the pattern on. Returns what follows the pattern.
+/// Adds the findings of a pattern: whether its references end, at the name that it has, and then
+/// those of its nodes. The text is the source from the pattern on. Returns what follows the
+/// pattern.
 ///
 /// # Errors
 /// [`AllocError`] if memory runs out; `findings` then holds its old findings and some of these.
@@ -52,7 +53,8 @@ pub fn push_pattern<'s, 't>(
     Ok(found.rest)
 }
 
-/// Adds the finding that the references of a pattern with these occurrences never end, if they don't.
+/// Adds the finding that the references of a pattern with these occurrences never end, if they
+/// don't.
 fn push_endless<'s>(
     alloc: Global,
     catalog: &Catalog<'_, '_, 's>,

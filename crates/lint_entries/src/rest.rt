@@ -51,7 +51,8 @@ pub fn term_rest<'t>(
     Ok(rest)
 }
 
-/// What follows the value of a message, which may have none. The text is the source from the value on.
+/// What follows the value of a message, which may have none. The text is the source from the value
+/// on.
 fn value_rest<'t>(
     alloc: Global,
     value: &Option<Pattern<&str>>,
@@ -67,7 +68,8 @@ fn value_rest<'t>(
     }
 }
 
-/// What follows the attributes of an entry. The text is the source from the line of the first one on.
+/// What follows the attributes of an entry. The text is the source from the line of the first one
+/// on.
 fn attributes_rest<'t>(
     alloc: Global,
     attributes: &[Attribute<&str>],
@@ -94,7 +96,8 @@ fn pattern_rest<'t>(
     requires { IsPatternAt text.now (elements_of pattern.now) }
     ensures { IfOk result (λ rest. LeavesAfter (elements_of pattern.now) text.now rest.now) }
 {
-    // The occurrences aren't needed here, but a walk that doesn't list them would be a second copy of this one.
+    // The occurrences aren't needed here, but a walk that doesn't list them would be a second copy
+    // of this one.
     let found = pattern_occurrences(alloc, pattern, text)?;
     Ok(found.rest)
 }

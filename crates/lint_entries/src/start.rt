@@ -4,8 +4,8 @@
 ghost use Rattle.std.specs.Prelude.{◌≡◌, true};
 ghost use Rattle.lint_entries.specs.Starts as starts;
 
-/// The source from its next message or term on, if only blank lines and comments come before that. Otherwise it is from
-/// the first place on, at the start of a line, that could begin one.
+/// The source from its next message or term on, if only blank lines and comments come before that.
+/// Otherwise it is from the first place on, at the start of a line, that could begin one.
 pub fn next_start(text: &[u8]) -> &[u8]
     ensures { result.now ≡ starts.next_start true text.now }
 {

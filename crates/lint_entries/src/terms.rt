@@ -52,7 +52,8 @@ impl<'s> ReferredTerms<'s> {
         Ok(())
     }
 
-    /// The finding of an entry at an offset: that it is a term, and that the catalog doesn't refer to it.
+    /// The finding of an entry at an offset: that it is a term, and that the catalog doesn't refer
+    /// to it.
     ///
     /// # Errors
     /// [`AllocError`] if memory runs out; nothing is kept.

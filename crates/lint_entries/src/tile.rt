@@ -20,8 +20,8 @@ pub enum Tile<'r, 's> {
     Junk,
 }
 
-/// The messages, the terms and the junk of a source, in their order. The tree and the errors are those that
-/// `fluent_parser::parse` gives of the source; comments of the tree make no difference.
+/// The messages, the terms and the junk of a source, in their order. The tree and the errors are
+/// those that `fluent_parser::parse` gives of the source; comments of the tree make no difference.
 ///
 /// # Errors
 /// [`AllocError`] if memory runs out; nothing is kept.

@@ -13,8 +13,8 @@ use lint_finding::{File, Finding, SourcePosition};
 use std::alloc::{AllocError, Global};
 use std::vec;
 
-/// The findings of a file with these tiles and syntax findings, after the declarations of other files. Its own
-/// declarations are added to those.
+/// The findings of a file with these tiles and syntax findings, after the declarations of other
+/// files. Its own declarations are added to those.
 ///
 /// # Errors
 /// [`AllocError`] if memory runs out; some declarations may be added then.

@@ -21,8 +21,9 @@ pub struct PlacedEntry<'r, 's> {
     pub text: &'s [u8],
 }
 
-/// Adds the findings of an entry, after these declarations: first of its id, then of its patterns, and if the id is new,
-/// whether it is an unused term, and how it differs from the reference. Its own declaration is added, too.
+/// Adds the findings of an entry, after these declarations: first of its id, then of its patterns,
+/// and if the id is new, whether it is an unused term, and how it differs from the reference. Its
+/// own declaration is added, too.
 ///
 /// # Errors
 /// [`AllocError`] if memory runs out; some findings may be added then.

@@ -21,12 +21,12 @@ use fluent_parser::{ErrorKind, ParserError, Refusal, refusals_at};
 use lint_finding::{Finding, Severity};
 use std::alloc::{AllocError, Global};
 
-/// The finding of each junk of a source, in their order. The errors are those that [`parse`](fluent_parser::parse)
-/// reports of the source.
+/// The finding of each junk of a source, in their order. The errors are those that
+/// [`parse`](fluent_parser::parse) reports of the source.
 ///
-/// A finding is where its error is. But if an attribute can't be read, its line is junk: then the finding is where
-/// reading the attribute stopped, and says why. If the source begins with a byte order mark, the finding of its first
-/// line says that.
+/// A finding is where its error is. But if an attribute can't be read, its line is junk: then the
+/// finding is where reading the attribute stopped, and says why. If the source begins with a byte
+/// order mark, the finding of its first line says that.
 ///
 /// ```no_run
 /// let findings = match parse(alloc, source) {
@@ -85,7 +85,8 @@ fn findings_of(
     Ok(findings)
 }
 
-/// The finding of a refusal of a source: of the byte order mark, if that is what is refused at its front.
+/// The finding of a refusal of a source: of the byte order mark, if that is what is refused at its
+/// front.
 fn finding_of(alloc: Global, source: &str, refusal: &Refusal) -> Result<Finding, AllocError>
     requires { IsBetweenCharacters source.now refusal.now }
     ensures { IfOk result (λ found. finding_view found

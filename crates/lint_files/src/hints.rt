@@ -92,7 +92,8 @@ fn hint_for_brace(at: &str) -> Option<&'static str>
     }
 }
 
-/// The hint if a character of a range is missing: there is one if nothing at the front of junk begins an entry.
+/// The hint if a character of a range is missing: there is one if nothing at the front of junk
+/// begins an entry.
 fn hint_for_range(range: &str, junk: &str, at: &str) -> Option<&'static str>
     ensures { option_copied result ≡ first_hint
         (hints_by junk.now at.now (kind_of (told.expected_char_range range.now))) }

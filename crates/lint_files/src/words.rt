@@ -110,7 +110,8 @@ fn expected_token<'a>(token: char, junk: &'a str, at: &'a str) -> Sentence<'a>
     Sentence::Expected(words, at)
 }
 
-/// The sentence if a character of a range is missing. Where a letter is missing at the front of junk, an entry is.
+/// The sentence if a character of a range is missing. Where a letter is missing at the front of
+/// junk, an entry is.
 fn expected_range<'a>(range: &str, junk: &str, at: &'a str) -> Sentence<'a>
     ensures { sentence_text result ≡ syntax.sentence_of junk.now at.now
         (kind_of (told.expected_char_range range.now)) }

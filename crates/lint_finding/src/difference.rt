@@ -10,8 +10,8 @@ use crate::records::Finding;
 use crate::remark::Remark;
 use std::alloc::{AllocError, Global};
 
-/// How a message of a catalog differs from the message of the reference with the same id. Its text is that of
-/// `docs/reference/lint.md`.
+/// How a message of a catalog differs from the message of the reference with the same id. Its text
+/// is that of `docs/reference/lint.md`.
 #[derive(Clone, Copy)]
 pub enum Difference<'s> {
     /// The catalog has no such message.

@@ -5,8 +5,8 @@
 //! the line and the column of an offset. A [`Difference`] is how a message differs from that of the
 //! reference with the same id. [`CatalogIds`] are what the ids of a catalog stand for.
 //!
-//! `crates/lint_findings` defines which findings a catalog has, and `specs/View.antt` says which of its records each type
-//! here stands for. `docs/reference/lint.md` lists the codes.
+//! `crates/lint_findings` defines which findings a catalog has, and `specs/View.antt` says which of
+//! its records each type here stands for. `docs/reference/lint.md` lists the codes.
 #![tactic(auto)]
 
 mod difference;

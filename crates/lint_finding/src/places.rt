@@ -58,9 +58,10 @@ impl SourcePosition {
         self.column
     }
 
-    /// The place of an offset in the same source, or the source's end if the offset is after it. Each byte between this
-    /// place and that one is read, so the places of a source take one walk in all if they are in order. If that one is
-    /// on a line above, its line is read from the start.
+    /// The place of an offset in the same source, or the source's end if the offset is after it.
+    /// Each byte between this place and that one is read, so the places of a source take one walk
+    /// in all if they are in order. If that one is on a line above, its line is read from the
+    /// start.
     pub fn moved_to(self, source: &str, offset: usize) -> SourcePosition
         requires { IsPlaceIn source.now self }
         ensures place { IsPlaceIn source.now result }
@@ -83,8 +84,9 @@ impl SourcePosition {
         place
     }
 
-    /// What is before this place on its line, and the text from this place on. If this place is within a character, the
-    /// front ends after the character; if it is within a line end, the front ends before that.
+    /// What is before this place on its line, and the text from this place on. If this place is
+    /// within a character, the front ends after the character; if it is within a line end, the
+    /// front ends before that.
     pub fn split<'a>(self, source: &'a str) -> (&'a str, &'a str)
         requires { IsPlaceIn source.now self }
         ensures line { to_line_end (drop self.line_start source.now) ≡ result.0.now ++ to_line_end result.1.now }

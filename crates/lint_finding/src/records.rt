@@ -19,8 +19,8 @@ pub struct Finding {
     /// The name of its kind, as `unknown-term`.
     pub code: &'static str,
     pub severity: Severity,
-    /// The id of the entry that it is in, a term's with its minus, and after a dot the name of its attribute if it is
-    /// in an attribute: `-brand`, `login.title`.
+    /// The id of the entry that it is in, a term's with its minus, and after a dot the name of its
+    /// attribute if it is in an attribute: `-brand`, `login.title`.
     pub entry: Option<String>,
     /// What is wrong, as a sentence without a full stop.
     pub text: String,

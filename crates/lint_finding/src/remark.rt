@@ -60,7 +60,8 @@ impl Remark {
         Remark { hint, ..self }
     }
 
-    /// The finding of the remark, at an offset. `entry` is the entry or the attribute that it is about.
+    /// The finding of the remark, at an offset. `entry` is the entry or the attribute that it is
+    /// about.
     pub fn at(self, offset: usize, entry: String) -> Finding
         ensures { finding_view result ≡ f.finding_at offset (string_bytes entry) (remark_view self) }
     {

@@ -11,76 +11,80 @@ pub fn positions_determine_offsets()
     ensures { PositionsDetermineOffsets }
 {}
 
-/// The messages and terms among the tiles of a source are those of its tree, in the same order. The errors of its junk
-/// are those that the parser reports.
+/// The messages and terms among the tiles of a source are those of its tree, in the same order. The
+/// errors of its junk are those that the parser reports.
 pub fn tiles_are_the_source()
     ensures entries { TilesAreTheList }
     ensures errors { TilesHaveTheErrors }
 {}
 
-/// Among the findings of a catalog, with or without a reference, each file has as many of the codes `syntax` and
-/// `byte-order-mark` as the parser reports errors of it.
+/// Among the findings of a catalog, with or without a reference, each file has as many of the codes
+/// `syntax` and `byte-order-mark` as the parser reports errors of it.
 pub fn syntax_findings_are_errors()
     ensures catalogs { OfCatalogs HasErrors }
     ensures translations { OfTranslations HasErrors }
 {}
 
-/// The walk through the text of a pattern lists the nodes of the pattern, in their order. Each expression and each key
-/// that it lists is read at its place, which is an end of the text.
+/// The walk through the text of a pattern lists the nodes of the pattern, in their order. Each
+/// expression and each key that it lists is read at its place, which is an end of the text.
 pub fn occurrences_are_the_nodes()
     ensures nodes { OccurrencesAreTheNodes }
     ensures read { OccurrencesAreRead }
 {}
 
-/// An entry has a place for each of its patterns, the value's and those of its attributes, and the pattern is read
-/// there.
+/// An entry has a place for each of its patterns, the value's and those of its attributes, and the
+/// pattern is read there.
 pub fn patterns_have_places()
     ensures { PatternsHavePlaces }
 {}
 
-/// For each finding with one of the codes `unknown-message`, `unknown-term`, `unknown-attribute`, `unknown-function` and
-/// `no-value`, the source is read from the finding's offset on as a reference, and the finding says the error that this
-/// reference has.
+/// For each finding with one of the codes `unknown-message`, `unknown-term`, `unknown-attribute`,
+/// `unknown-function` and `no-value`, the source is read from the finding's offset on as a
+/// reference, and the finding says the error that this reference has.
 pub fn reference_findings_are_read()
     ensures catalogs { OfCatalogs HasReferences }
     ensures translations { OfTranslations HasReferences }
 {}
 
-/// For each finding with the code `duplicate-variant`, a key is read from the finding's offset on. It is that of a
-/// variant, of a select of the source, that never matches: without it, each value has the same match.
+/// For each finding with the code `duplicate-variant`, a key is read from the finding's offset on.
+/// It is that of a variant, of a select of the source, that never matches: without it, each value
+/// has the same match.
 pub fn repeated_variants_never_match<C: FluentType>()
     ensures catalogs { OfCatalogs (HasLostVariants C.Meaning) }
     ensures translations { OfTranslations (HasLostVariants C.Meaning) }
 {}
 
-/// If no finding has one of the codes `unknown-message`, `unknown-term`, `unknown-attribute`, `unknown-function`,
-/// `no-value`, `no-default` and `cyclic-reference`, the catalog is flawless, with or without a reference: in each program
-/// that has the functions that are known, whatever they do, if the first entry of an id counts.
+/// If no finding has one of the codes `unknown-message`, `unknown-term`, `unknown-attribute`,
+/// `unknown-function`, `no-value`, `no-default` and `cyclic-reference`, the catalog is flawless,
+/// with or without a reference: in each program that has the functions that are known, whatever
+/// they do, if the first entry of an id counts.
 pub fn clean_reports_are_flawless<F>()
     ensures catalogs { CleanCatalogsAreFlawless F }
     ensures translations { CleanTranslationsAreFlawless F }
 {}
 
-/// If no finding has the code `duplicate-id`, an id stands for the same, whether its first or its last entry counts.
+/// If no finding has the code `duplicate-id`, an id stands for the same, whether its first or its
+/// last entry counts.
 pub fn own_ids_override_nothing<F>()
     ensures catalogs { CatalogsOverrideNothing F }
     ensures translations { TranslationsOverrideNothing F }
 {}
 
-/// In a flawless catalog each answer has only errors that depend on the request: variables that are none of its
-/// arguments, and too many placeables.
+/// In a flawless catalog each answer has only errors that depend on the request: variables that are
+/// none of its arguments, and too many placeables.
 pub fn flawless_catalogs_answer<C: FluentType, F>()
     ensures { FlawlessCatalogsAnswer C.Meaning F }
 {}
 
-/// A catalog that lacks no message, value or attribute of its reference has a pattern for each request that the
-/// reference has one for.
+/// A catalog that lacks no message, value or attribute of its reference has a pattern for each
+/// request that the reference has one for.
 pub fn nothing_missing_answers_all<F>()
     ensures { NothingMissingAnswersAll F }
 {}
 
-/// If no finding has one of the codes `missing-message`, `missing-value` and `missing-attribute`, that is so in each
-/// program that has the functions that are known, if the first entry of an id counts.
+/// If no finding has one of the codes `missing-message`, `missing-value` and `missing-attribute`,
+/// that is so in each program that has the functions that are known, if the first entry of an id
+/// counts.
 pub fn translations_answer_all<F>()
     ensures { TranslationsAnswerAll F }
 {}

@@ -59,8 +59,8 @@ impl Categories {
     }
 }
 
-/// The plural categories that whole numbers below 1,000 have in a language, for counts and for ordinals. Numbers are
-/// tried once for a language, and not for each select.
+/// The plural categories that whole numbers below 1,000 have in a language, for counts and for
+/// ordinals. Numbers are tried once for a language, and not for each select.
 #[derive(Clone, Copy)]
 pub struct CommonCategories {
     cardinal: Categories,

@@ -49,7 +49,8 @@ pub fn after_escape(text: &str) -> &str
     }
 }
 
-/// Whether this many hex digits stand at the front and write the number of a surrogate, or one above U+10FFFF.
+/// Whether this many hex digits stand at the front and write the number of a surrogate, or one
+/// above U+10FFFF.
 fn is_no_character(text: &str, count: usize) -> bool
     requires { 0 < count }
     ensures { result ≡ is_no_character count text.now }

@@ -14,7 +14,8 @@ use fluent_ast::{InlineExpression, NamedArgument};
 use lint_nodes::Node;
 use std::alloc::{AllocError, Global};
 
-/// The escapes of a node that stand for no character: of a string literal, or of the named arguments of a call.
+/// The escapes of a node that stand for no character: of a string literal, or of the named
+/// arguments of a call.
 ///
 /// # Errors
 /// [`AllocError`] if memory runs out; nothing is kept.

@@ -40,7 +40,8 @@ fn near_text(alloc: Global, sign: &str, near: &str) -> Result<String, AllocError
     format!(in alloc; "did you mean `{sign}{near}`?")
 }
 
-/// The hint if a message of this id is missing, in a catalog with these ids, whose reference has those.
+/// The hint if a message of this id is missing, in a catalog with these ids, whose reference has
+/// those.
 ///
 /// # Errors
 /// [`AllocError`] if memory runs out; nothing is kept.

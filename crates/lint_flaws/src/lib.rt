@@ -1,10 +1,10 @@
 //! What is wrong with the nodes of a pattern, in a catalog.
 //!
 //! [`node_remarks`] says all that is wrong with a node: what a reference lacks, with a name that it
-//! looks like ([`near_hint`]) or what else may be meant, the plural categories that a translator may
-//! have forgotten, the escapes of string literals that stand for no character, as half of a pair,
-//! `\uD83D`, or `\U110000`, which is too large, and the options of `NUMBER` that it makes nothing
-//! of. `docs/reference/lint.md` has the rules in plain words.
+//! looks like ([`near_hint`]) or what else may be meant, the plural categories that a translator
+//! may have forgotten, the escapes of string literals that stand for no character, as half of a
+//! pair, `\uD83D`, or `\U110000`, which is too large, and the options of `NUMBER` that it makes
+//! nothing of. `docs/reference/lint.md` has the rules in plain words.
 #![tactic(auto)]
 
 mod common;

@@ -27,8 +27,8 @@ const CATEGORIES: [PluralCategory; 5] = [
     PluralCategory::MANY,
 ];
 
-/// The plural categories that a node lacks by the rules of a language, in which these are common: none if it is no
-/// select, or if the rules aren't known.
+/// The plural categories that a node lacks by the rules of a language, in which these are common:
+/// none if it is no select, or if the rules aren't known.
 ///
 /// # Errors
 /// [`AllocError`] if memory runs out; nothing is kept.
@@ -50,7 +50,8 @@ pub fn node_categories(
     }
 }
 
-/// The categories that a select lacks: if it has a variant for one, the common ones that it has none for.
+/// The categories that a select lacks: if it has a variant for one, the common ones that it has
+/// none for.
 fn missing_categories(
     alloc: Global,
     common: &CommonCategories,

@@ -22,9 +22,10 @@ pub trait KnownNames {
 /// The bytes of identifiers, small letters first.
 const NAME_BYTES: &str = "abcdefghijklmnopqrstuvwxyzABCDEFGHIJKLMNOPQRSTUVWXYZ0123456789_-";
 
-/// The first known name that is one slip of the keyboard away from this one: two neighbouring bytes swapped, one left
-/// out, one replaced by another, or one added. It looks up at most 8,383 names, whatever is known, and none if the name
-/// has fewer than 3 or more than 64 bytes, or a byte that isn't ASCII.
+/// The first known name that is one slip of the keyboard away from this one: two neighbouring bytes
+/// swapped, one left out, one replaced by another, or one added. It looks up at most 8,383 names,
+/// whatever is known, and none if the name has fewer than 3 or more than 64 bytes, or a byte that
+/// isn't ASCII.
 ///
 /// # Errors
 /// [`AllocError`] if memory runs out; nothing is kept.

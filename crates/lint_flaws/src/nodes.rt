@@ -19,7 +19,8 @@ use fluent_ids::Entry;
 use lint_finding::CatalogIds;
 use lint_nodes::{Node, name_of};
 
-/// What is wrong with a node of a pattern, in a catalog with these ids. A node has one flaw at most.
+/// What is wrong with a node of a pattern, in a catalog with these ids. A node has one flaw at
+/// most.
 pub fn node_flaw<'a, 's>(ids: &CatalogIds<'_, 's>, node: Node<'a, 's>) -> Option<Flaw<'a, 's>>
     ensures { map flaw_view (option_to_list result)
         ≡ node_flaws (ids_view _ ids.now) (node_view node.entry) }

@@ -32,7 +32,8 @@ pub fn category_text(category: PluralCategory) -> &'static str
     }
 }
 
-/// Whether some whole number below 1,000 has the category. Each of them is tried, up to the first that has it.
+/// Whether some whole number below 1,000 has the category. Each of them is tried, up to the first
+/// that has it.
 #[tactic(auto, unfolding(lint_findings::specs::MissingCategories::is_common))]
 pub fn is_common(plurals: &LanguagePlurals, rule: PluralRuleType, category: PluralCategory) -> bool
     ensures { result ≡ m.is_common plurals.now rule category }
@@ -68,8 +69,8 @@ fn has_category(
     category_text(found) == category_text(category)
 }
 
-/// The rules that a select with this selector chooses by: those for ordinals if it is `NUMBER(.., type: "ordinal")`,
-/// and otherwise those for counts.
+/// The rules that a select with this selector chooses by: those for ordinals if it is
+/// `NUMBER(.., type: "ordinal")`, and otherwise those for counts.
 ///
 /// # Errors
 /// [`AllocError`] if memory runs out; nothing is kept.

@@ -1,11 +1,13 @@
 //! The nodes of a pattern, which its findings are about, and where they stand in its source.
 //!
-//! [`pattern_nodes`] lists the references, literals and selects of a pattern, and the keys that a select has twice, in the
-//! order in which they are written. [`pattern_occurrences`] goes through the tree of a pattern and its source together: the
-//! tree says which part is next, and the source where it ends. So each byte is looked at once, and nothing is read again.
-//! [`declared_id`], [`name_of`] and [`key_text`] are the names in a tree.
+//! [`pattern_nodes`] lists the references, literals and selects of a pattern, and the keys that a
+//! select has twice, in the order in which they are written. [`pattern_occurrences`] goes through
+//! the tree of a pattern and its source together: the tree says which part is next, and the source
+//! where it ends. So each byte is looked at once, and nothing is read again. [`declared_id`],
+//! [`name_of`] and [`key_text`] are the names in a tree.
 //!
-//! `Nodes.antt` and `Occurrences.antt` of `lint_findings` say which nodes and occurrences a pattern has.
+//! `Nodes.antt` and `Occurrences.antt` of `lint_findings` say which nodes and occurrences a pattern
+//! has.
 #![tactic(auto)]
 
 mod keys;

@@ -27,8 +27,8 @@ pub enum Node<'a, 's> {
     RepeatedKey(&'a VariantKey<&'s str>),
 }
 
-/// The nodes of a pattern, in the order in which they are written. The literals that a call has as named arguments are
-/// part of the node of the call.
+/// The nodes of a pattern, in the order in which they are written. The literals that a call has as
+/// named arguments are part of the node of the call.
 ///
 /// # Errors
 /// [`AllocError`] if memory runs out; nothing is kept.

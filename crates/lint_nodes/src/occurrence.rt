@@ -14,8 +14,8 @@ use crate::walk::push_pattern;
 use fluent_ast::Pattern;
 use std::alloc::{AllocError, Global};
 
-/// A node, with the source from its first byte on. A string begins at its quote, a variable at its dollar sign, a term
-/// at its minus. A select stands at its selector.
+/// A node, with the source from its first byte on. A string begins at its quote, a variable at its
+/// dollar sign, a term at its minus. A select stands at its selector.
 #[derive(Clone, Copy)]
 pub struct Occurrence<'a, 's, 't> {
     pub node: Node<'a, 's>,
@@ -29,8 +29,8 @@ pub struct Found<'a, 's, 't> {
     pub rest: &'t [u8],
 }
 
-/// The nodes of a pattern with their places, in the order in which they are written. The text is the source from the
-/// pattern on.
+/// The nodes of a pattern with their places, in the order in which they are written. The text is
+/// the source from the pattern on.
 ///
 /// # Errors
 /// [`AllocError`] if memory runs out; nothing is kept.

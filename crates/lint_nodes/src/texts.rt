@@ -8,7 +8,8 @@ use crate::words::skip;
 use fluent_tokens as words;
 use memchr::memchr2;
 
-/// What follows the texts at the front, from within a line on: the next placeable, or the end of the pattern.
+/// What follows the texts at the front, from within a line on: the next placeable, or the end of
+/// the pattern.
 pub fn after_texts(text: &[u8]) -> &[u8]
     ensures { result.now ≡ rests.after_texts text.now }
 {

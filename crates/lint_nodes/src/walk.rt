@@ -1,5 +1,5 @@
-//! A walk through the tree of a pattern and its source. Each function adds the occurrences in a part, and gives what
-//! follows the part.
+//! A walk through the tree of a pattern and its source. Each function adds the occurrences in a
+//! part, and gives what follows the part.
 #![tactic(auto)]
 
 ghost use Rattle.std.specs.Prelude.{◌≡◌, [], IfOk, OnOk, option_map};
@@ -23,7 +23,8 @@ use fluent_ast::{
 };
 use std::alloc::AllocError;
 
-/// Adds the occurrences in a pattern that is read at the front of a text. Returns the text after it.
+/// Adds the occurrences in a pattern that is read at the front of a text. Returns the text after
+/// it.
 ///
 /// # Errors
 /// [`AllocError`] if memory runs out; `found` then holds its old occurrences and some of these.

@@ -12,7 +12,8 @@ ghost use Rattle.lint_report.specs.View.{IsAt, entry_label, in_file, optional_te
 use lint_finding::{File, Finding, Severity, SourcePosition};
 use std::alloc::AllocError;
 
-/// Appends the command of a finding that is at this place: `::error file=FILE,line=LINE,col=COLUMN,title=CODE::TEXT`.
+/// Appends the command of a finding that is at this place:
+/// `::error file=FILE,line=LINE,col=COLUMN,title=CODE::TEXT`.
 pub(crate) fn push_command(
     text: &mut String,
     file: &File,

@@ -27,7 +27,8 @@ const SHOWN: usize = 120;
 const SHOWN_AFTER: usize = 60;
 
 impl<'a> Window<'a> {
-    /// What is shown of a line, of which `front` is before a finding, and `rest` is the text from the finding on.
+    /// What is shown of a line, of which `front` is before a finding, and `rest` is the text from
+    /// the finding on.
     pub(crate) fn around(front: &'a str, rest: &'a str) -> Window<'a>
         ensures { IsWindow front.now rest.now result }
     {

@@ -17,8 +17,8 @@ pub struct FileMessages<'a> {
     pub messages: usize,
 }
 
-/// The summaries of the files of a catalog, and then those of its reference, by all findings of the catalog. Each finding
-/// is looked at three times.
+/// The summaries of the files of a catalog, and then those of its reference, by all findings of the
+/// catalog. Each finding is looked at three times.
 ///
 /// # Errors
 /// [`AllocError`] if memory runs out; nothing is kept.

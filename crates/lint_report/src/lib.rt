@@ -1,14 +1,15 @@
-//! Findings as `ftl lint` writes them: for each a text for people, a line, an object of JSON, or a command of a GitHub
-//! workflow.
+//! Findings as `ftl lint` writes them: for each a text for people, a line, an object of JSON, or a
+//! command of a GitHub workflow.
 //!
-//! [`push_finding_text`] appends a finding for people: `FILE:LINE:COLUMN: SEVERITY: ENTRY: TEXT [CODE]`, the line that it is
-//! on with a caret below it, and its hint. Control characters and marks that change the direction of text are masked:
-//! [`push_masked`] appends any text so. [`report`] writes all findings of a catalog in one [`Format`], and a [`Summary`] for
-//! each file if there is a reference; [`summaries`] counts these. [`has_failed`] says whether the status is that of a
-//! failure.
+//! [`push_finding_text`] appends a finding for people:
+//! `FILE:LINE:COLUMN: SEVERITY: ENTRY: TEXT [CODE]`, the line that it is on with a caret below it,
+//! and its hint. Control characters and marks that change the direction of text are masked:
+//! [`push_masked`] appends any text so. [`report`] writes all findings of a catalog in one
+//! [`Format`], and a [`Summary`] for each file if there is a reference; [`summaries`] counts these.
+//! [`has_failed`] says whether the status is that of a failure.
 //!
-//! The texts are those of `Report.antt`, `ShownLine.antt`, `Output.antt` and `Summary.antt` in `crates/lint_findings/specs`;
-//! `docs/reference/lint.md` shows them.
+//! The texts are those of `Report.antt`, `ShownLine.antt`, `Output.antt` and `Summary.antt` in
+//! `crates/lint_findings/specs`; `docs/reference/lint.md` shows them.
 #![tactic(auto)]
 
 mod commands;

@@ -13,8 +13,8 @@ use crate::masked::push_masked;
 use lint_finding::{File, Finding, Severity, SourcePosition};
 use std::alloc::AllocError;
 
-/// Appends the first line of a finding that is at this place, with the place and the severity in colours if `coloured` is
-/// true.
+/// Appends the first line of a finding that is at this place, with the place and the severity in
+/// colours if `coloured` is true.
 ///
 /// # Errors
 /// [`AllocError`] if memory runs out; a part of it may have been appended.

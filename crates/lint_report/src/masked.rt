@@ -6,8 +6,8 @@ ghost use Rattle.lint_findings.specs.ShownLine.{is_masked as is_masked_character
 
 use std::alloc::AllocError;
 
-/// Appends a text, masked: U+FFFD for each control character but the tab, and for each mark that changes the direction of
-/// text.
+/// Appends a text, masked: U+FFFD for each control character but the tab, and for each mark that
+/// changes the direction of text.
 ///
 /// # Errors
 /// [`AllocError`] if memory runs out; a part of it may have been appended.

@@ -19,8 +19,8 @@ use std::alloc::{AllocError, Global};
 /// How findings are written.
 #[derive(Clone, Copy, Debug, PartialEq, Eq)]
 pub enum Format {
-    /// For people: for each finding its line as in [`Format::Line`], the line of the source with a caret below the
-    /// finding, and the hint, and then a line for each summary.
+    /// For people: for each finding its line as in [`Format::Line`], the line of the source with a
+    /// caret below the finding, and the hint, and then a line for each summary.
     Text,
     /// As [`Format::Text`], in the colours of a terminal.
     Terminal,
@@ -32,8 +32,8 @@ pub enum Format {
     Github,
 }
 
-/// All findings in this format, and as text and in JSON the summaries after them. Notes are left out unless `notes` is
-/// true.
+/// All findings in this format, and as text and in JSON the summaries after them. Notes are left
+/// out unless `notes` is true.
 ///
 /// # Errors
 /// [`AllocError`] if memory runs out; nothing is kept.

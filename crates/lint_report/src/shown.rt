@@ -16,8 +16,9 @@ use lint_finding::{File, Finding, SourcePosition};
 use std::alloc::AllocError;
 use unicode_width::UnicodeWidthChar;
 
-/// Appends a finding that is at this place as text: its first line, the line that it is on with a caret below it, and
-/// its hint, in colours if `coloured` is true. It reads no more of that line than it shows.
+/// Appends a finding that is at this place as text: its first line, the line that it is on with a
+/// caret below it, and its hint, in colours if `coloured` is true. It reads no more of that line
+/// than it shows.
 ///
 /// # Errors
 /// [`AllocError`] if memory runs out; a part of it may have been appended.

@@ -15,8 +15,8 @@ use crate::push_masked;
 use serde_json::{Map, Value};
 use std::alloc::{AllocError, Global};
 
-/// The counts of a file. A file of the catalog has obsolete and untranslated messages, and one of the reference missing
-/// ones.
+/// The counts of a file. A file of the catalog has obsolete and untranslated messages, and one of
+/// the reference missing ones.
 #[derive(Clone, Copy, Debug, PartialEq, Eq)]
 pub struct Summary<'a> {
     /// The name of the file.

@@ -38,7 +38,8 @@ pub type Bundle<'r, 's> = FluentBundle<
     NoTransform,
 >;
 
-/// A resource, also where parts of its source are no entries. Where memory is refused, it is read once more.
+/// A resource, also where parts of its source are no entries. Where memory is refused, it is read
+/// once more.
 pub fn read(alloc: Global, source: &'static str) -> Option<FluentResource<'static>> {
     match FluentResource::try_new(alloc, source) {
         Err(ResourceError::Memory) => whole_or_broken(FluentResource::try_new(alloc, source)),

@@ -1,8 +1,9 @@
-//! Builds bundles from small resources, step by step, and prints of each kind how many steps there were and how many of them
-//! answered, or left after, something else than they must. Errors are copied.
+//! Builds bundles from small resources, step by step, and prints of each kind how many steps there
+//! were and how many of them answered, or left after, something else than they must. Errors are
+//! copied.
 //!
-//! A call that is refused memory has to leave its bundle as it was, and is made once more. So the same counts are printed with
-//! any one allocation refused: see `docs/inside/validation.md`.
+//! A call that is refused memory has to leave its bundle as it was, and is made once more. So the
+//! same counts are printed with any one allocation refused: see `docs/inside/validation.md`.
 #![tactic(auto)]
 
 mod attributes;

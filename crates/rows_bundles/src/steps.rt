@@ -45,7 +45,8 @@ fn read_all(alloc: Global, steps: &[Step]) -> Result<Vec<FluentResource<'static>
     Ok(resources)
 }
 
-/// Takes the steps on a new bundle. Where memory is refused, the bundle has to be as before, and the step is taken once more.
+/// Takes the steps on a new bundle. Where memory is refused, the bundle has to be as before, and
+/// the step is taken once more.
 fn try_steps<'s>(
     alloc: Global,
     steps: &[Step],

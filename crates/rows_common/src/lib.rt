@@ -1,5 +1,5 @@
-//! What the test crates have in common: rows, trials, which are made once more where memory is refused, and the counts of those
-//! that were wrong.
+//! What the test crates have in common: rows, trials, which are made once more where memory is
+//! refused, and the counts of those that were wrong.
 #![tactic(auto)]
 
 pub mod lines;

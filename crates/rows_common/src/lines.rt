@@ -27,10 +27,12 @@ impl<L: Lines> Trial for Line<'_, L> {
     }
 }
 
-/// Tries each line of a file, prints those that are wrong, and counts them all. A file that can't be read is tried once more.
+/// Tries each line of a file, prints those that are wrong, and counts them all. A file that can't
+/// be read is tried once more.
 ///
 /// # Errors
-/// [`io::Error`] if the file can't be read, or a line can't be printed; what was printed before stays printed.
+/// [`io::Error`] if the file can't be read, or a line can't be printed; what was printed before
+/// stays printed.
 pub fn try_lines<L: Lines>(rt: &HostRuntime, file: &str, lines: L) -> io::Result<Tally> {
     let text = fs::read_to_string(rt, file).or_else(|_| fs::read_to_string(rt, file))?;
     let mut tally = Tally::new();
@@ -44,7 +46,8 @@ pub fn try_lines<L: Lines>(rt: &HostRuntime, file: &str, lines: L) -> io::Result
     Ok(tally)
 }
 
-/// Prints how many trials of a name there were, by this word for them, and how many of them were wrong.
+/// Prints how many trials of a name there were, by this word for them, and how many of them were
+/// wrong.
 ///
 /// # Errors
 /// [`io::Error`] if the line can't be printed.

@@ -11,8 +11,8 @@ pub trait Trial: Copy {
     fn is_right(self, alloc: Global) -> Result<bool, AllocError>;
 }
 
-/// Whether it is right. Where memory is refused, it is tried once more: with one allocation refused each answer must be right,
-/// or that memory ran out.
+/// Whether it is right. Where memory is refused, it is tried once more: with one allocation refused
+/// each answer must be right, or that memory ran out.
 pub fn is_right_again<T: Trial>(alloc: Global, trial: T) -> bool {
     match trial.is_right(alloc) {
         Ok(is_right) => is_right,

@@ -16,13 +16,14 @@ pub struct Asked<'b, 'r, 's, 'a> {
 }
 
 impl Asked<'_, '_, '_, '_> {
-    /// Whether the pattern gives what it must, by each call. The only error is that memory runs out.
+    /// Whether the pattern gives what it must, by each call. The only error is that memory runs
+    /// out.
     pub fn gives(self, alloc: Global, wanted: Wanted<'_>) -> Result<bool, AllocError> {
         Ok(self.is_formatted(alloc, wanted)? && self.is_written(alloc, wanted)?)
     }
 
-    /// Whether `format_pattern` gives the text, and tells the errors. Where memory is refused, it must have told the first of
-    /// them.
+    /// Whether `format_pattern` gives the text, and tells the errors. Where memory is refused, it
+    /// must have told the first of them.
     fn is_formatted(self, alloc: Global, wanted: Wanted<'_>) -> Result<bool, AllocError> {
         let mut errors = Vec::new(alloc);
         match self.is_text(&mut errors, wanted.text) {

@@ -22,7 +22,8 @@ pub type Plain<'r, 's> = FluentBundle<
     NoTransform,
 >;
 
-/// A resource, also where parts of its source are no entries. The only error is that memory runs out.
+/// A resource, also where parts of its source are no entries. The only error is that memory runs
+/// out.
 pub fn read(alloc: Global, source: &str) -> Result<FluentResource<'_>, AllocError> {
     match FluentResource::try_new(alloc, source) {
         Ok(resource) => Ok(resource),

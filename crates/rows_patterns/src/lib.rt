@@ -1,5 +1,6 @@
-//! Asks bundles for what their patterns give, as the rows of `crates/all_rows/data/patterns` say, and calls a scope. It prints of
-//! each file how many rows there were and how many of them gave something else than they must.
+//! Asks bundles for what their patterns give, as the rows of `crates/all_rows/data/patterns` say,
+//! and calls a scope. It prints of each file how many rows there were and how many of them gave
+//! something else than they must.
 #![tactic(auto)]
 
 pub mod asking;

@@ -1,9 +1,10 @@
 //! Rows of messages that are asked for, and what they must give.
 //!
-//! `source` and `id`, usually `m`, say what is asked for, unless the pattern is made by hand. `args` are the arguments by
-//! name. `text` is what `format_pattern` gives, or `null` where there is no such pattern, `written` what is written where it
-//! differs, and `errors` has the texts of the errors. The settings stand by their names; placeables are isolated where
-//! `isolating` isn't `false`.
+//! `source` and `id`, usually `m`, say what is asked for, unless the pattern is made by hand.
+//! `args` are the arguments by name. `text` is what `format_pattern` gives, or `null` where there
+//! is no such pattern, `written` what is written where it differs, and `errors` has the texts of
+//! the errors. The settings stand by their names; placeables are isolated where `isolating` isn't
+//! `false`.
 
 use crate::asking::Asked;
 use crate::bundle::{Bundle, is_added, pattern_in, read};
@@ -59,7 +60,8 @@ impl<'row> Row<'row> {
         })
     }
 
-    /// Whether the pattern, which may be made by hand, gives what it must. The only error is that memory runs out.
+    /// Whether the pattern, which may be made by hand, gives what it must. The only error is that
+    /// memory runs out.
     fn is_right_with(
         self,
         alloc: Global,

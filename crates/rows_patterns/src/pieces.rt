@@ -54,8 +54,9 @@ enum Ended {
 }
 
 impl Asked<'_, '_, '_, '_> {
-    /// Whether `write_pattern` writes what it must, and whether it is refused where the first piece is, the second and so on,
-    /// with the pieces before written and the first of the errors told. The only error is that memory runs out.
+    /// Whether `write_pattern` writes what it must, and whether it is refused where the first piece
+    /// is, the second and so on, with the pieces before written and the first of the errors told.
+    /// The only error is that memory runs out.
     pub fn is_written(self, alloc: Global, wanted: Wanted<'_>) -> Result<bool, AllocError> {
         for left in 0..MOST_PIECES {
             match self.write(alloc, wanted, left)? {
@@ -78,8 +79,8 @@ impl Asked<'_, '_, '_, '_> {
     }
 }
 
-/// How writing ended, by what it answered and left after. The only error is that memory runs out, also that of the writer's
-/// text.
+/// How writing ended, by what it answered and left after. The only error is that memory runs out,
+/// also that of the writer's text.
 fn judge(
     alloc: Global,
     wanted: Wanted<'_>,

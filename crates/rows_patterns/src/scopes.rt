@@ -1,4 +1,5 @@
-//! A scope in which a program resolves the placeables of a pattern by itself: what each of its calls gives, tells and counts.
+//! A scope in which a program resolves the placeables of a pattern by itself: what each of its
+//! calls gives, tells and counts.
 
 use crate::bundle::{Plain, read};
 use fluent_ast::{CallArguments, Expression, InlineExpression, Pattern, PatternElement};
@@ -223,7 +224,8 @@ fn add_error_unheard(bundle: &Plain<'_, '_>) -> Result<(), AllocError> {
     scope.add_error(ResolverError::Cyclic)
 }
 
-/// The messages `m0` to `m119`, each of which refers to the next one, `m120`, and `n` that refers to `m0`.
+/// The messages `m0` to `m119`, each of which refers to the next one, `m120`, and `n` that refers
+/// to `m0`.
 fn chained(alloc: Global) -> Result<String, AllocError> {
     let mut source = String::from_str(alloc, "m120 = x\nn = { m0 }\n")?;
     for number in 0..120u32 {

@@ -17,7 +17,8 @@ pub fn arguments_of(alloc: Global, json: Option<&Json>) -> Result<Option<Args<'_
     Ok(Some(arguments))
 }
 
-/// Sets a value. Where memory is refused, it is set once more in the same arguments, which must be as they were.
+/// Sets a value. Where memory is refused, it is set once more in the same arguments, which must be
+/// as they were.
 fn set<'row>(
     arguments: &mut Args<'row>,
     name: &'row str,
@@ -29,8 +30,8 @@ fn set<'row>(
     }
 }
 
-/// A value: a text, which is read as a number where it is one, a text in a list, which is not, `true` for the program's own
-/// value, `false` for `Error`, and `null` for none.
+/// A value: a text, which is read as a number where it is one, a text in a list, which is not,
+/// `true` for the program's own value, `false` for `Error`, and `null` for none.
 pub fn value_of(json: &Json) -> Value<'_> {
     match json {
         Json::String(text) => Value::try_number(text.as_str()),

@@ -36,7 +36,8 @@ impl<'row> Wanted<'row> {
         Ok(told.len() == self.errors.len() && self.are_first(alloc, told)?)
     }
 
-    /// Whether these are the first of the errors, in their order. The only error is that memory runs out.
+    /// Whether these are the first of the errors, in their order. The only error is that memory
+    /// runs out.
     pub fn are_first(self, alloc: Global, told: &[FluentError]) -> Result<bool, AllocError> {
         for (error, text) in told.iter().zip(self.errors) {
             if !is_told(alloc, error, text)? {

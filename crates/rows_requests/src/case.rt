@@ -87,7 +87,8 @@ impl Run {
     }
 }
 
-/// Whether a front of the answers was written, each before the next call of the reader, and the end was read once at most.
+/// Whether a front of the answers was written, each before the next call of the reader, and the end
+/// was read once at most.
 fn is_in_order(requests: &Requests<'_>, answers: &Answers<'_>) -> bool {
     !requests.is_wrong && !answers.is_wrong && requests.ends <= 1
 }

@@ -15,8 +15,8 @@ const MOST_CUTS: usize = 300;
 /// Longer requests are cut in about so many places, and near the ends of blocks and of few lines.
 const FEW_CUTS: usize = 20;
 
-/// Runs whose reader fails after each byte of the requests: the whole lines before are answered, and nothing else is written. It
-/// changes nothing that the reader would work again.
+/// Runs whose reader fails after each byte of the requests: the whole lines before are answered,
+/// and nothing else is written. It changes nothing that the reader would work again.
 pub fn try_cuts(alloc: Global, case: Case<'_, '_>) -> Tally {
     let mut tally = Tally::new();
     for count in 0..=case.script.requests.len() {

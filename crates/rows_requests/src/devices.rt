@@ -1,5 +1,5 @@
-//! Devices over memory that give and take little at a time, and fail. They tell contracts no bytes: what they gave and took is
-//! compared here.
+//! Devices over memory that give and take little at a time, and fail. They tell contracts no bytes:
+//! what they gave and took is compared here.
 ghost use Rattle.std.specs.Prelude.{◌≤◌, IfSome, None, length};
 
 use crate::script::Script;
@@ -112,7 +112,8 @@ pub struct Requests<'a> {
     pub ends: u32,
     /// The most bytes that a call asked for.
     pub most: usize,
-    /// Whether a call asked for no bytes, or came before the whole lines that were given were answered.
+    /// Whether a call asked for no bytes, or came before the whole lines that were given were
+    /// answered.
     pub is_wrong: bool,
 }
 

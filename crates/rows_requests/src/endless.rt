@@ -37,7 +37,8 @@ impl Source for Letters {
 }
 
 impl Letters {
-    /// Gives a letter to the front of `buffer`, and the count of it: 0 at the end, or if `buffer` is empty.
+    /// Gives a letter to the front of `buffer`, and the count of it: 0 at the end, or if `buffer`
+    /// is empty.
     fn fill(&self, buffer: &mut [u8]) -> usize
         ensures { result ≤ length buffer.new }
     {
@@ -61,7 +62,8 @@ impl Engine for Echo {
     }
 }
 
-/// Runs over a reader without an end, over one that tells it too late, and over one that tells it at the last call.
+/// Runs over a reader without an end, over one that tells it too late, and over one that tells it
+/// at the last call.
 pub fn try_endless(alloc: Global) -> Tally {
     let mut tally = Tally::new();
     tally.add(ends_so(alloc, None, Err(RunError::Read), b""));
@@ -70,7 +72,8 @@ pub fn try_endless(alloc: Global) -> Tally {
     tally
 }
 
-/// Whether a run ends so, with these bytes written, once it made all the calls that it was given and no other.
+/// Whether a run ends so, with these bytes written, once it made all the calls that it was given
+/// and no other.
 fn ends_so(alloc: Global, end: Option<u64>, outcome: Result<(), RunError>, written: &[u8]) -> bool {
     let mut reader = Letters {
         end,

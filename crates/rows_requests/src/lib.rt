@@ -1,13 +1,16 @@
-//! Answers the request lines of `rows.jsonl` by `fluent_run::run`, over devices in memory that give and take little at a
-//! time or fail, and prints of each kind how many runs there were and how many of them ended in another way than they must.
-//! Readers that don't end are tried with few calls of `read`, and sources that nest deep within a budget of the stack.
+//! Answers the request lines of `rows.jsonl` by `fluent_run::run`, over devices in memory that give
+//! and take little at a time or fail, and prints of each kind how many runs there were and how many
+//! of them ended in another way than they must. Readers that don't end are tried with few calls of
+//! `read`, and sources that nest deep within a budget of the stack.
 //!
-//! The rows of `memory.jsonl` are tried also where an allocation is refused. The files stand in `crates/all_rows/data/requests`.
+//! The rows of `memory.jsonl` are tried also where an allocation is refused. The files stand in
+//! `crates/all_rows/data/requests`.
 //!
-//! The command `ftl` is run by its words over files, and what tidies and checks is called, as the rows of `ftl/runs.jsonl` and
-//! `tidying/rows.jsonl` say, which stand in `crates/all_rows/data`, too, with the files that the words name. What is refused
-//! memory has to say so, after whole answers, and is tried once more. So the same counts are printed with any one allocation
-//! refused: see `docs/inside/validation.md`.
+//! The command `ftl` is run by its words over files, and what tidies and checks is called, as the
+//! rows of `ftl/runs.jsonl` and `tidying/rows.jsonl` say, which stand in `crates/all_rows/data`,
+//! too, with the files that the words name. What is refused memory has to say so, after whole
+//! answers, and is tried once more. So the same counts are printed with any one allocation refused:
+//! see `docs/inside/validation.md`.
 #![tactic(auto)]
 
 pub mod calls;

@@ -8,8 +8,8 @@ use std::alloc::Global;
 /// Requests that come by so few bytes a call wait in the run until their line is whole.
 const PIECE: usize = 5;
 
-/// Whether a run gives the answers of a row. Where memory is refused, the answers to its first lines are to be written, and the
-/// row is to be answered when it is asked for once more.
+/// Whether a run gives the answers of a row. Where memory is refused, the answers to its first
+/// lines are to be written, and the row is to be answered when it is asked for once more.
 pub fn is_right(alloc: Global, case: Case<'_, '_>) -> bool {
     let run = answer(alloc, case);
     if case.is_answered(run) {

@@ -1,8 +1,9 @@
 //! Sources that nest as deep as a budget of the stack lets them, and one level deeper.
 //!
-//! A row has what is `before` and `after` all levels, what a level `opens` and `closes`, what is `inner`most, and a `budget`
-//! in bytes. Of its `messages` each is nested `levels` deep, and all but the last have a reference to the next innermost.
-//! With the first numbers of `messages` and `levels` the first message is answered, and with the second ones memory runs out.
+//! A row has what is `before` and `after` all levels, what a level `opens` and `closes`, what is
+//! `inner`most, and a `budget` in bytes. Of its `messages` each is nested `levels` deep, and all
+//! but the last have a reference to the next innermost. With the first numbers of `messages` and
+//! `levels` the first message is answered, and with the second ones memory runs out.
 
 use crate::json::{count_of, list_in};
 use anyhow::{Context, Result};

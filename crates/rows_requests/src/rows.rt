@@ -1,7 +1,7 @@
 //! The rows of the files.
 //!
-//! A row has its `sources`, its `lines`, and maybe settings: `isolating`, which is usually on, and `overriding`, which is off.
-//! It is `too_large` where memory runs out at its last line.
+//! A row has its `sources`, its `lines`, and maybe settings: `isolating`, which is usually on, and
+//! `overriding`, which is off. It is `too_large` where memory runs out at its last line.
 
 use crate::case::Case;
 use crate::cuts::try_cuts;
@@ -70,7 +70,8 @@ pub fn try_rows(rt: &HostRuntime) -> Result<Tallies> {
     try_file(rt, "requests/rows.jsonl", Trial::Devices)
 }
 
-/// Tries the rows of `memory.jsonl`. Where memory is refused to this crate, they are all tried once more.
+/// Tries the rows of `memory.jsonl`. Where memory is refused to this crate, they are all tried once
+/// more.
 pub fn try_memory(rt: &HostRuntime) -> Result<Tally> {
     let tallies = try_file(rt, "requests/memory.jsonl", Trial::Memory).or_else(|_| try_file(
         rt,

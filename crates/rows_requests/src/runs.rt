@@ -32,8 +32,8 @@ impl<'row> End<'row> {
         self.fault.len().max(OUT_OF_MEMORY.len())
     }
 
-    /// Whether a run ended so. The only error is that it told that memory ran out, with nothing but whole lines of its
-    /// answers written.
+    /// Whether a run ended so. The only error is that it told that memory ran out, with nothing but
+    /// whole lines of its answers written.
     fn is_met(self, status: u8, given: &[u8], told: &[u8]) -> Result<bool, AllocError> {
         let (answers, fault) = (self.answers.as_bytes(), self.fault.as_bytes());
         if u64::from(status) == self.status && given == answers && told == fault {

@@ -1,8 +1,8 @@
 //! Request lines, and the answer to each.
 //!
-//! A line of a row is a list: the request and its answer, each with its line feed where it has one, and then how often both
-//! come, if more than once. Each of them is a text or a list of pieces: texts, numbers, which are single bytes, and lists of a
-//! text and how often it comes.
+//! A line of a row is a list: the request and its answer, each with its line feed where it has one,
+//! and then how often both come, if more than once. Each of them is a text or a list of pieces:
+//! texts, numbers, which are single bytes, and lists of a text and how often it comes.
 
 use crate::json::{count_of, is_set, list_in};
 use anyhow::{Context, Result};
@@ -64,7 +64,8 @@ impl Script {
         Ok(())
     }
 
-    /// How many bytes the answers have to the lines that are whole in so many bytes of the requests.
+    /// How many bytes the answers have to the lines that are whole in so many bytes of the
+    /// requests.
     pub fn answered(&self, count: usize) -> usize {
         let whole = self.ends.partition_point(|&(asked, _)| asked <= count);
         match whole.checked_sub(1) {
@@ -78,7 +79,8 @@ impl Script {
         count == 0 || self.ends.iter().any(|&(_, told)| told == count)
     }
 
-    /// Whether a line of the requests ends at this place, right before it or right after it, where they are few.
+    /// Whether a line of the requests ends at this place, right before it or right after it, where
+    /// they are few.
     pub fn is_near_end(&self, place: usize) -> bool {
         self.ends.len() <= FEW_LINES
             && self

@@ -15,8 +15,8 @@ const FEW_CUTS: usize = 20;
 /// More calls than the answers of a row take, where each call takes all that there is.
 const CALLS: usize = 1_000;
 
-/// Runs whose writer fails at each of its calls, or takes nothing: a front of the answers is written. It changes nothing that the
-/// writer would work again.
+/// Runs whose writer fails at each of its calls, or takes nothing: a front of the answers is
+/// written. It changes nothing that the writer would work again.
 pub fn try_writes(alloc: Global, case: Case<'_, '_>) -> Tally {
     let mut tally = Tally::new();
     tally.add(takes_nothing(alloc, case));
@@ -72,8 +72,8 @@ fn is_cut(alloc: Global, case: Case<'_, '_>, count: usize, heals: bool) -> bool 
     is_front(&run) && run.written == count
 }
 
-/// Whether runs end as they must whose writer takes all that there is in so many calls, and then fails: until one of them comes
-/// to its end.
+/// Whether runs end as they must whose writer takes all that there is in so many calls, and then
+/// fails: until one of them comes to its end.
 fn fails_at_calls(alloc: Global, case: Case<'_, '_>, reading: Reading) -> bool {
     for calls in 0..CALLS {
         let lasting = case.run(alloc, reading, failing(calls, false));

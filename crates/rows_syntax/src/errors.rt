@@ -1,5 +1,5 @@
-//! Errors, as rows write them: an object for each, with its place, `pos`, the `slice` of its junk or null, what it is told as,
-//! `kind`, and the text that its kind holds, `detail`, or null.
+//! Errors, as rows write them: an object for each, with its place, `pos`, the `slice` of its junk
+//! or null, what it is told as, `kind`, and the text that its kind holds, `detail`, or null.
 
 use fluent_syntax::parser::{ErrorKind, ParserError};
 use serde_json::Value;

@@ -1,7 +1,7 @@
-//! Reads the sources of `parse.jsonl`, `rows.jsonl` and `written.jsonl` by both readers, over both kinds of text, and compares
-//! with the trees, errors and written texts that stand there. A row may leave some of them out. Then it writes the trees of
-//! `trees.jsonl`, most of which no source reads as, reads the values of `values.jsonl`, and resolves the escapes of
-//! `escapes.jsonl`.
+//! Reads the sources of `parse.jsonl`, `rows.jsonl` and `written.jsonl` by both readers, over both
+//! kinds of text, and compares with the trees, errors and written texts that stand there. A row may
+//! leave some of them out. Then it writes the trees of `trees.jsonl`, most of which no source reads
+//! as, reads the values of `values.jsonl`, and resolves the escapes of `escapes.jsonl`.
 //!
 //! The files stand in `crates/all_rows/data/syntax`.
 #![tactic(auto)]
@@ -64,7 +64,8 @@ fn try_file(rt: &HostRuntime, file: &str, rows: Rows) -> Result<()> {
     Ok(())
 }
 
-/// Reads, copies and writes where memory may be refused, and prints how many trials there were and how many of them were wrong.
+/// Reads, copies and writes where memory may be refused, and prints how many trials there were and
+/// how many of them were wrong.
 pub fn try_refused(rt: &HostRuntime) -> Result<()> {
     tell(rt, "refused", "trials", refused::try_refused(rt.alloc()))?;
     Ok(())

@@ -1,6 +1,8 @@
-//! Calls that may be refused memory: each gives what it gives with all the memory that it asks for, or says that memory ran out.
+//! Calls that may be refused memory: each gives what it gives with all the memory that it asks for,
+//! or says that memory ran out.
 //!
-//! Each call is made twice. With any one allocation refused at most one of the two says so, and the other tells what is right.
+//! Each call is made twice. With any one allocation refused at most one of the two says so, and the
+//! other tells what is right.
 
 ghost use Rattle.std.specs.Prelude.{string_bytes};
 

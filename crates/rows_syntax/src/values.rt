@@ -1,9 +1,8 @@
 //! JSON texts, and the trees that have their values.
 //!
-//! A row has a `text`, the tree of its value as `{:?}` shows it, `shown`, and the compact text of that tree's value with the
-//! version, `written`.
-//! Where no tree has the value, a row says what the `error` is told as, and its `code`. A row without a text stands for memory
-//! that ran out.
+//! A row has a `text`, the tree of its value as `{:?}` shows it, `shown`, and the compact text of
+//! that tree's value with the version, `written`. Where no tree has the value, a row says what the
+//! `error` is told as, and its `code`. A row without a text stands for memory that ran out.
 
 use crate::text_of;
 use anyhow::{Context, Result};

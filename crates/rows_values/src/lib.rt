@@ -1,8 +1,10 @@
-//! Tries rows on numbers, values and arguments, and prints of each file how many rows there are, and those that are wrong. The
-//! rows were written by hand, and stand in `crates/all_rows/data/values`.
+//! Tries rows on numbers, values and arguments, and prints of each file how many rows there are,
+//! and those that are wrong. The rows were written by hand, and stand in
+//! `crates/all_rows/data/values`.
 //!
-//! A row is what is tried, by what, and what must come of it, with bars between. A row that is refused memory is tried once
-//! more, so the same counts are printed with any one allocation refused.
+//! A row is what is tried, by what, and what must come of it, with bars between. A row that is
+//! refused memory is tried once more, so the same counts are printed with any one allocation
+//! refused.
 #![tactic(auto)]
 
 pub mod numbers;

@@ -27,7 +27,8 @@ impl<'r, 's: 'r> Catalog<'r, 's> {
     /// The text of a message's value, and its errors.
     ///
     /// # Errors
-    /// There is no such message, it has no value, or memory runs out. The catalog is unchanged then.
+    /// There is no such message, it has no value, or memory runs out. The catalog is unchanged
+    /// then.
     pub fn text(
         &mut self,
         alloc: Global,
@@ -63,8 +64,8 @@ fn add<'r, 's>(bundle: &mut EnglishBundle<'r, 's>, resource: &'r FluentResource<
     Ok(())
 }
 
-/// Writes a pattern element by element, for a program that shows text and placeables in two ways: here the placeables are in
-/// brackets.
+/// Writes a pattern element by element, for a program that shows text and placeables in two ways:
+/// here the placeables are in brackets.
 fn write_parts<'r, 's: 'r>(
     alloc: Global,
     bundle: &EnglishBundle<'r, 's>,

@@ -20,16 +20,16 @@ where
     F: FluentFunction<C> + Drop,
     G: ValueFormatter<C, M>,
 {
-    /// Adds the messages and terms of a resource. If two entries have one id, the first stays, whatever it is and
-    /// wherever it comes from.
+    /// Adds the messages and terms of a resource. If two entries have one id, the first stays,
+    /// whatever it is and wherever it comes from.
     ///
     /// ```
     /// bundle.add_resource(&resource)?;
     /// ```
     ///
     /// # Errors
-    /// - [`AddResourceError::Overriding`] has a notice for each entry whose id stood for another one, in the order of the
-    ///   entries. All other entries were added.
+    /// - [`AddResourceError::Overriding`] has a notice for each entry whose id stood for another
+    ///   one, in the order of the entries. All other entries were added.
     /// - [`AddResourceError::Memory`] if memory runs out. The bundle is unchanged then.
     pub fn add_resource(&mut self, resource: &'r FluentResource<'s>) -> Result<(), AddResourceError>
         ensures added { AddsFirst result (bundle_of self.old) (bundle_of self.new) (entries_view resource.now) }
@@ -38,8 +38,8 @@ where
         self.ids.add_resource(resource.tree())
     }
 
-    /// Adds the messages and terms of a resource. If two entries have one id, the last stays: it replaces a function
-    /// too.
+    /// Adds the messages and terms of a resource. If two entries have one id, the last stays: it
+    /// replaces a function too.
     ///
     /// # Errors
     /// Memory ran out. The bundle is unchanged then.

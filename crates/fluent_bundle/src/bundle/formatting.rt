@@ -34,7 +34,8 @@ where
     G: ValueFormatter<C, M>,
     T: TextTransform,
 {
-    /// Writes what a pattern gives for these arguments, piece by piece. Appends its errors to the list.
+    /// Writes what a pattern gives for these arguments, piece by piece. Appends its errors to the
+    /// list.
     ///
     /// ```no_run
     /// let mut text = String::new(alloc);
@@ -47,10 +48,11 @@ where
     /// ```
     ///
     /// # Errors
-    /// [`Writer`](WriteError::Writer) if the writer refuses a piece, [`Memory`](WriteError::Memory) if memory runs out,
-    /// also if calls and placeables nest so deep, over all messages that the pattern enters, that they would take more
-    /// than 6 MB of the machine's stack. The writer then took a beginning of the text, and the list holds the old
-    /// errors, and after them the first of the pattern's.
+    /// [`Writer`](WriteError::Writer) if the writer refuses a piece, [`Memory`](WriteError::Memory)
+    /// if memory runs out, also if calls and placeables nest so deep, over all messages that the
+    /// pattern enters, that they would take more than 6 MB of the machine's stack. The writer then
+    /// took a beginning of the text, and the list holds the old errors, and after them the first of
+    /// the pattern's.
     pub fn write_pattern<'x, W: TextWrite>(
         &'x self,
         w: &mut W,
@@ -78,11 +80,11 @@ where
         write_answer(w, &place, pattern, errors)
     }
 
-    /// The text of a pattern for these arguments. Appends its errors to the list. If a formatter is set, it is asked once more,
-    /// for the complete text.
+    /// The text of a pattern for these arguments. Appends its errors to the list. If a formatter is
+    /// set, it is asked once more, for the complete text.
     ///
-    /// A pattern of one text is borrowed from its source if neither a transform nor a formatter is set. That doesn't allocate,
-    /// and succeeds.
+    /// A pattern of one text is borrowed from its source if neither a transform nor a formatter is
+    /// set. That doesn't allocate, and succeeds.
     ///
     /// ```
     /// let message = bundle.get_message("intro").context("no such message")?;
@@ -93,9 +95,9 @@ where
     /// ```
     ///
     /// # Errors
-    /// [`AllocError`] if memory runs out, also if calls and placeables nest so deep, over all messages that the pattern
-    /// enters, that they would take more than 6 MB of the machine's stack. The list then holds the old errors, and
-    /// after them the first of the pattern's.
+    /// [`AllocError`] if memory runs out, also if calls and placeables nest so deep, over all
+    /// messages that the pattern enters, that they would take more than 6 MB of the machine's
+    /// stack. The list then holds the old errors, and after them the first of the pattern's.
     pub fn format_pattern<'x>(
         &'x self,
         pattern: &'r Pattern<&'s str>,
@@ -115,12 +117,12 @@ where
         }
     }
 
-    /// As [`format_pattern`](FluentBundle::format_pattern), within this budget of the machine's stack. A pattern that nests
-    /// too deep is told from want of memory.
+    /// As [`format_pattern`](FluentBundle::format_pattern), within this budget of the machine's
+    /// stack. A pattern that nests too deep is told from want of memory.
     ///
-    /// What stands open inside each other takes the bytes that [`resolving`] has: calls and texts that are arguments or
-    /// selectors, in the pattern and in those that it enters. What is closed takes none, so no number of them side by side
-    /// is too deep.
+    /// What stands open inside each other takes the bytes that [`resolving`] has: calls and texts
+    /// that are arguments or selectors, in the pattern and in those that it enters. What is closed
+    /// takes none, so no number of them side by side is too deep.
     ///
     /// ```no_run
     /// match bundle.format_pattern_within(pattern, None, &mut errors, StackBudget::THREAD) {
@@ -131,8 +133,9 @@ where
     /// ```
     ///
     /// # Errors
-    /// [`Memory`](Fault::Memory) if memory runs out, [`TooDeep`](Fault::TooDeep) only if the pattern takes more bytes at
-    /// some place than the budget has. The list then holds the old errors, and after them the first of the pattern's.
+    /// [`Memory`](Fault::Memory) if memory runs out, [`TooDeep`](Fault::TooDeep) only if the
+    /// pattern takes more bytes at some place than the budget has. The list then holds the old
+    /// errors, and after them the first of the pattern's.
     ///
     /// [`resolving`]: fluent_text::stack::resolving
     pub fn format_pattern_within<'x>(
@@ -161,8 +164,8 @@ where
         Ok(hand_out(&lent, text)?)
     }
 
-    /// The same by resolving the pattern, whatever it is. It is no part of its callers, so that one that asks for a text
-    /// alone needs no room for it.
+    /// The same by resolving the pattern, whatever it is. It is no part of its callers, so that one
+    /// that asks for a text alone needs no room for it.
     #[inline(never)]
     fn resolve_pattern<'x>(
         &'x self,
@@ -198,8 +201,8 @@ where
     F: FluentFunction<C>,
     G: ValueFormatter<C, M>,
 {
-    /// The text of a pattern that is one text, if neither a transform nor a formatter is set: it is all that the pattern
-    /// gives.
+    /// The text of a pattern that is one text, if neither a transform nor a formatter is set: it is
+    /// all that the pattern gives.
     fn lone_text_as_is(&self, pattern: &Pattern<&'s str>) -> Option<&'s str>
         ensures as_is { IfSome result (λ text. ShowsAsIs (bundle_of self.now)) }
         ensures text { IfSome result (λ text. lone_text (elements_of pattern.now) ≡ Some text.now) }

@@ -23,8 +23,8 @@ where
     F: FluentFunction<C>,
     G: ValueFormatter<C, M>,
 {
-    /// A bundle without messages, terms and functions, with isolation, and without a transform and a formatter. It takes no
-    /// memory.
+    /// A bundle without messages, terms and functions, with isolation, and without a transform and
+    /// a formatter. It takes no memory.
     pub fn new(alloc: Global, locales: Vec<String>, plurals: M) -> Self
         ensures { bundle_of result ≡ empty (texts_of locales) plurals }
     {
@@ -60,10 +60,11 @@ where
     C: FluentType,
     F: FluentFunction<C>,
 {
-    /// A new bundle without locales, with the plural rules of the language that a tag such as `pl` or `pt-PT` names, or `None` if
-    /// none are known. It doesn't allocate.
+    /// A new bundle without locales, with the plural rules of the language that a tag such as `pl`
+    /// or `pt-PT` names, or `None` if none are known. It doesn't allocate.
     ///
-    /// A program with a formatter of its own calls [`new`](Self::new) with the rules of [`LanguagePlurals::for_tag`].
+    /// A program with a formatter of its own calls [`new`](Self::new) with the rules of
+    /// [`LanguagePlurals::for_tag`].
     ///
     /// ```
     /// let mut bundle = LanguageBundle::for_tag(alloc, "en-US").context("unknown locale")?;
@@ -75,10 +76,12 @@ where
         Some(FluentBundle::new(alloc, Vec::new(alloc), plurals))
     }
 
-    /// A new bundle with the plural rules of the first of its locales that has any, or `None` if none has.
+    /// A new bundle with the plural rules of the first of its locales that has any, or `None` if
+    /// none has.
     ///
-    /// Otherwise it is that of [`new`](Self::new). No other language stands in for locales without rules: a program that has such
-    /// a locale names the rules itself, say those of [`LanguagePlurals::root`].
+    /// Otherwise it is that of [`new`](Self::new). No other language stands in for locales without
+    /// rules: a program that has such a locale names the rules itself, say those of
+    /// [`LanguagePlurals::root`].
     pub fn for_locales(alloc: Global, locales: Vec<String>) -> Option<Self>
         ensures { option_map bundle_of result ≡ option_map (empty (texts_of locales)) (plurals_of (texts_of locales)) }
     {
@@ -92,9 +95,10 @@ where
     C: FluentType,
     F: FluentFunction<C>,
 {
-    /// A new bundle without locales, with the plural rules of the language that a tag such as `de` or `pt-PT` names, and with numbers
-    /// as its locale writes them; `None` if no plural rules are known. If CLDR doesn't say how the locale writes numbers, they are
-    /// written plainly. It doesn't allocate.
+    /// A new bundle without locales, with the plural rules of the language that a tag such as `de`
+    /// or `pt-PT` names, and with numbers as its locale writes them; `None` if no plural rules are
+    /// known. If CLDR doesn't say how the locale writes numbers, they are written plainly. It
+    /// doesn't allocate.
     ///
     /// ```no_run
     /// let mut bundle = LocalizedBundle::for_tag(alloc, "de").context("unknown locale")?;

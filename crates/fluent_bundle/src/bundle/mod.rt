@@ -19,14 +19,17 @@ use fluent_value::{
 use std::alloc::Global;
 use std::marker::PhantomData;
 
-/// The messages and terms of resources and the functions of a program, with what patterns are resolved by.
+/// The messages and terms of resources and the functions of a program, with what patterns are
+/// resolved by.
 ///
-/// `M` is the plural source, `C` the program's own type of values, `F` the type of its functions, `G` that of its formatter and
-/// `T` that of its transform. The resources are borrowed for `'r`, and their sources for `'s`: both have to outlive the bundle.
+/// `M` is the plural source, `C` the program's own type of values, `F` the type of its functions,
+/// `G` that of its formatter and `T` that of its transform. The resources are borrowed for `'r`,
+/// and their sources for `'s`: both have to outlive the bundle.
 ///
-/// A program that brings no types of its own uses [`EnglishBundle`], [`LanguageBundle`] or [`LocalizedBundle`]. A function can return these, and a
-/// struct can hold them. If `T` isn't named, the transform is boxed; such a bundle stays in the function that makes it, and in
-/// those that it is lent to as `&`.
+/// A program that brings no types of its own uses [`EnglishBundle`], [`LanguageBundle`] or
+/// [`LocalizedBundle`]. A function can return these, and a struct can hold them. If `T` isn't
+/// named, the transform is boxed; such a bundle stays in the function that makes it, and in those
+/// that it is lent to as `&`.
 ///
 /// ```
 /// let mut bundle = LanguageBundle::for_tag(alloc, "en-US").context("unknown locale")?;
@@ -50,12 +53,13 @@ where
     pub(crate) formatter: Option<G>,
     pub(crate) alloc: Global,
     custom: PhantomData<C>,
-    // With it what the types mean is part of the bundle's own type, and contracts need not name it. A boxed transform has no such
-    // meaning of its type alone, so `T` has no bound here.
+    // With it what the types mean is part of the bundle's own type, and contracts need not name it.
+    // A boxed transform has no such meaning of its type alone, so `T` has no bound here.
     ghost categories: { M.category_of ≡ M.category_of },
 }
 
-/// A bundle by English plural rules, for a program that brings no values, functions, formatter or transform of its own.
+/// A bundle by English plural rules, for a program that brings no values, functions, formatter or
+/// transform of its own.
 ///
 /// ```
 /// let mut bundle = EnglishBundle::english(rt.alloc());
@@ -73,8 +77,8 @@ pub type EnglishBundle<'r, 's> = FluentBundle<
     NoTransform,
 >;
 
-/// A bundle by the plural rules of any language, for a program that brings no values, functions, formatter or transform of its
-/// own.
+/// A bundle by the plural rules of any language, for a program that brings no values, functions,
+/// formatter or transform of its own.
 ///
 /// ```
 /// let mut bundle = LanguageBundle::for_tag(alloc, "pl").context("no rules")?;
@@ -91,8 +95,8 @@ pub type LanguageBundle<'r, 's> = FluentBundle<
     NoTransform,
 >;
 
-/// A bundle by the plural rules of any language that writes numbers as its locale does, for a program that brings no values,
-/// functions, formatter or transform of its own.
+/// A bundle by the plural rules of any language that writes numbers as its locale does, for a
+/// program that brings no values, functions, formatter or transform of its own.
 ///
 /// ```no_run
 /// let mut bundle = LocalizedBundle::for_tag(alloc, "de").context("unknown locale")?;

@@ -14,8 +14,8 @@ where
     G: ValueFormatter<C, M>,
     T: Drop,
 {
-    /// Sets whether placeables stand between the marks U+2068 and U+2069, which keep their direction from that of the text
-    /// around them.
+    /// Sets whether placeables stand between the marks U+2068 and U+2069, which keep their
+    /// direction from that of the text around them.
     ///
     /// ```
     /// bundle.set_use_isolating(false);
@@ -42,7 +42,8 @@ where
     G: ValueFormatter<C, M> + Drop,
     T: Drop,
 {
-    /// Sets what values are shown by before the rules of Fluent, or that they are shown by these alone.
+    /// Sets what values are shown by before the rules of Fluent, or that they are shown by these
+    /// alone.
     pub fn set_formatter(&mut self, formatter: Option<G>)
         ensures { bundle_of self.new ≡ record (bundle_of self.old) { formatter = formatter } }
     {

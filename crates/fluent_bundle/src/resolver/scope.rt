@@ -25,8 +25,8 @@ use fluent_value::{
 };
 use std::alloc::AllocError;
 
-/// What the placeables of a pattern are resolved in, by a program that writes the pattern by itself: a bundle, the arguments of a
-/// request, and the state of the resolver.
+/// What the placeables of a pattern are resolved in, by a program that writes the pattern by
+/// itself: a bundle, the arguments of a request, and the state of the resolver.
 ///
 /// A call that was refused leaves a scope that can be called again.
 ///
@@ -55,12 +55,14 @@ where
     pub bundle: &'b FluentBundle<'r, 's, M, C, F, G, T>,
     /// The list that errors are appended to. Without one they are dropped.
     pub errors: Option<&'b mut Vec<FluentError>>,
-    /// Whether one placeable more was to be opened than may be. Every pattern then stops before its next element.
+    /// Whether one placeable more was to be opened than may be. Every pattern then stops before its
+    /// next element.
     pub dirty: bool,
     arguments: Option<&'b FluentArgs<'a, C>>,
     placeables: u8,
     entered: u128,
-    // The pattern whose placeables the program writes, once one was tracked: all that is on the path between two calls.
+    // The pattern whose placeables the program writes, once one was tracked: all that is on the
+    // path between two calls.
     root: Option<&'r Pattern<&'s str>>,
 }
 
@@ -71,8 +73,8 @@ where
     F: FluentFunction<C>,
     G: ValueFormatter<C, M>,
 {
-    /// A scope in which nothing was resolved yet: no placeable is counted, no pattern entered, and the path is empty. Errors
-    /// are appended to those that the list holds. It doesn't allocate.
+    /// A scope in which nothing was resolved yet: no placeable is counted, no pattern entered, and
+    /// the path is empty. Errors are appended to those that the list holds. It doesn't allocate.
     pub fn new(
         bundle: &'b FluentBundle<'r, 's, M, C, F, G, T>,
         args: Option<&'b FluentArgs<'a, C>>,
@@ -134,12 +136,14 @@ where
     G: ValueFormatter<C, M>,
     T: TextTransform,
 {
-    /// Writes a placeable of a pattern that the caller opened: it isn't counted, and gets no isolation marks. The first pattern
-    /// that is tracked stays on the path from then on, so that a reference to it is one to itself.
+    /// Writes a placeable of a pattern that the caller opened: it isn't counted, and gets no
+    /// isolation marks. The first pattern that is tracked stays on the path from then on, so that a
+    /// reference to it is one to itself.
     ///
     /// # Errors
-    /// [`Writer`](WriteError::Writer) if the writer refuses the text, [`Memory`](WriteError::Memory) if memory runs out. The
-    /// writer then took nothing of it, the path is as it was, and the old errors are followed by the first of the placeable's.
+    /// [`Writer`](WriteError::Writer) if the writer refuses the text,
+    /// [`Memory`](WriteError::Memory) if memory runs out. The writer then took nothing of it, the
+    /// path is as it was, and the old errors are followed by the first of the placeable's.
     pub fn maybe_track<W: TextWrite>(
         &mut self,
         w: &mut W,
@@ -163,12 +167,14 @@ where
         Ok(())
     }
 
-    /// Writes a pattern that an expression refers to. If a pattern of the same content is on the path, that is reported as
-    /// [`Cyclic`](ResolverError::Cyclic), and the expression's fallback is written in braces.
+    /// Writes a pattern that an expression refers to. If a pattern of the same content is on the
+    /// path, that is reported as [`Cyclic`](ResolverError::Cyclic), and the expression's fallback
+    /// is written in braces.
     ///
     /// # Errors
-    /// [`Writer`](WriteError::Writer) if the writer refuses the text, [`Memory`](WriteError::Memory) if memory runs out. The
-    /// writer then took nothing of it, and the old errors are followed by the first of the pattern's.
+    /// [`Writer`](WriteError::Writer) if the writer refuses the text,
+    /// [`Memory`](WriteError::Memory) if memory runs out. The writer then took nothing of it, and
+    /// the old errors are followed by the first of the pattern's.
     pub fn track<W: TextWrite>(
         &mut self,
         w: &mut W,
@@ -190,11 +196,13 @@ where
         Ok(())
     }
 
-    /// Reports what an expression refers to as unknown, if it refers to anything, and writes its fallback in braces.
+    /// Reports what an expression refers to as unknown, if it refers to anything, and writes its
+    /// fallback in braces.
     ///
     /// # Errors
-    /// [`Writer`](WriteError::Writer) if the writer refuses the text, [`Memory`](WriteError::Memory) if memory runs out. The
-    /// writer then took nothing of it; the error was reported or not.
+    /// [`Writer`](WriteError::Writer) if the writer refuses the text,
+    /// [`Memory`](WriteError::Memory) if memory runs out. The writer then took nothing of it; the
+    /// error was reported or not.
     pub fn write_ref_error<W: TextWrite>(
         &mut self,
         w: &mut W,
@@ -213,10 +221,12 @@ where
         Ok(())
     }
 
-    /// The values of a call's arguments: positional ones in order, and those with a name. Without arguments both are empty.
+    /// The values of a call's arguments: positional ones in order, and those with a name. Without
+    /// arguments both are empty.
     ///
     /// # Errors
-    /// [`AllocError`] if memory runs out. The old errors are then followed by the first of the arguments'.
+    /// [`AllocError`] if memory runs out. The old errors are then followed by the first of the
+    /// arguments'.
     pub fn get_arguments(
         &mut self,
         arguments: Option<&'r CallArguments<&'s str>>,

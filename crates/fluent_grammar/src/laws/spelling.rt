@@ -1,5 +1,5 @@
-//! Laws about spelling and reading: reading gives a node and a rest exactly if the node is spelled up to that rest.
-//! What both build on, blanks and the pieces of patterns, has laws of its own.
+//! Laws about spelling and reading: reading gives a node and a rest exactly if the node is spelled
+//! up to that rest. What both build on, blanks and the pieces of patterns, has laws of its own.
 
 ghost use Rattle.fluent_grammar.specs.SpellingLaws.{AccessorsAgree, ArgumentsAgree, ArgumentsAreUnique, AttributesAgree, AttributesAreUnique, BlankAgrees, BlankInlineAgrees, CommentsAgree, EntriesAgree, EntriesAreUnique, ExpressionsAgree, ExpressionsAreUnique, KeysAgree, LineEndsAgree, LinesAgree, LinesAreUnique, LiteralsAgree, MessagesAgree, NamesAgree, NumbersAgree, PatternsAgree, PatternsAreUnique, PiecesAgree, PiecesAreUnique, PlaceablesAgree, PlaceablesAreUnique, RestsOfLinesAgree, RunsOfAttributesAgree, RunsOfAttributesAreUnique, StringsAgree, TermsAgree, TextPiecesAgree, VariantsAgree, VariantsAreUnique};
 ghost use Rattle.fluent_grammar.specs.LineLaws.{BlankEndIsCut, CommonIndentIsLeast};
@@ -31,15 +31,16 @@ pub fn expressions_agree()
     ensures variants { VariantsAgree }
 {}
 
-/// Patterns are read exactly if they are spelled, by as many levels as the text has bytes, and so are their pieces.
+/// Patterns are read exactly if they are spelled, by as many levels as the text has bytes, and so
+/// are their pieces.
 pub fn patterns_agree()
     ensures patterns { PatternsAgree }
     ensures lines { LinesAgree }
     ensures pieces { PiecesAgree }
 {}
 
-/// What the pieces of a pattern become: the common indent is the least that they have, and the pieces that are dropped
-/// at the end are blank, up to one that isn't.
+/// What the pieces of a pattern become: the common indent is the least that they have, and the
+/// pieces that are dropped at the end are blank, up to one that isn't.
 pub fn pieces_are_cut()
     ensures common_indent { CommonIndentIsLeast }
     ensures end { BlankEndIsCut }

@@ -30,12 +30,14 @@ pub fn constructs_take_some()
     ensures entries { EntriesTakeSome }
 {}
 
-/// A text is read in full by readers of more levels than it has bytes: further levels change nothing.
+/// A text is read in full by readers of more levels than it has bytes: further levels change
+/// nothing.
 pub fn levels_are_enough()
     ensures { LevelsAreEnough }
 {}
 
-/// What stands below those levels is never asked, so reading answers for every text, with a node or a refusal of the grammar's.
+/// What stands below those levels is never asked, so reading answers for every text, with a node or
+/// a refusal of the grammar's.
 pub fn bottom_is_never_asked()
     ensures { BottomIsNeverAsked }
 {}
@@ -81,13 +83,14 @@ pub fn parts_are_the_text()
     ensures { PartsAreTheText }
 {}
 
-/// Each part of a tiling that isn't empty begins at column 0: a blank block, an entry, junk or a line that is passed over.
+/// Each part of a tiling that isn't empty begins at column 0: a blank block, an entry, junk or a
+/// line that is passed over.
 pub fn parts_begin_at_column_zero()
     ensures { PartsBeginAtColumnZero }
 {}
 
-/// What is looked for after a refusal is the end of the junk: the first place, at the refusal's or after it, that an
-/// entry may begin at, or the end of the text.
+/// What is looked for after a refusal is the end of the junk: the first place, at the refusal's or
+/// after it, that an entry may begin at, or the end of the text.
 pub fn recovery_finds_the_end()
     ensures { RecoveryFindsTheEnd }
 {}
@@ -102,12 +105,14 @@ pub fn pieces_need_no_more_steps()
     ensures { PiecesNeedNoMoreSteps }
 {}
 
-/// There are as many errors as junk entries, in the same order, and the content of each junk is the source at its error's slice.
+/// There are as many errors as junk entries, in the same order, and the content of each junk is the
+/// source at its error's slice.
 pub fn junk_is_sliced()
     ensures { JunkIsSliced }
 {}
 
-/// The slices of the errors lie in the source; none is empty, and each begins where the one before it ends, or later.
+/// The slices of the errors lie in the source; none is empty, and each begins where the one before
+/// it ends, or later.
 pub fn slices_ascend()
     ensures { SlicesAscend }
 {}
@@ -117,18 +122,20 @@ pub fn places_start_in_slices()
     ensures { PlacesStartInSlices }
 {}
 
-/// Where a token is said to be expected, it doesn't stand there; an unbalanced closing brace stands at its place, and so does
-/// the line feed of a string that isn't terminated.
+/// Where a token is said to be expected, it doesn't stand there; an unbalanced closing brace stands
+/// at its place, and so does the line feed of a string that isn't terminated.
 pub fn errors_are_true()
     ensures { ErrorsAreTrue }
 {}
 
-/// The messages and terms that are read for runtime use are those of the full reading, comments set aside.
+/// The messages and terms that are read for runtime use are those of the full reading, comments set
+/// aside.
 pub fn runtime_has_the_same_list()
     ensures { RuntimeHasTheSameList }
 {}
 
-/// If the full reading of a source has no errors, and so no junk, the reading for runtime use has none.
+/// If the full reading of a source has no errors, and so no junk, the reading for runtime use has
+/// none.
 pub fn runtime_adds_no_junk()
     ensures { RuntimeAddsNoJunk }
 {}

@@ -18,10 +18,11 @@ use patterns::{read_identifier, read_pattern};
 use serde_json::Value;
 use std::alloc::Global;
 
-/// The tree that has a JSON value, as `docs/reference/json.md` says: the one whose value `to_value` of
-/// `fluent_json_write` gives, or that value without its version.
+/// The tree that has a JSON value, as `docs/reference/json.md` says: the one whose value `to_value`
+/// of `fluent_json_write` gives, or that value without its version.
 ///
-/// Names and literals are not examined, and neither are the texts in them. Nothing changes what `value` holds.
+/// Names and literals are not examined, and neither are the texts in them. Nothing changes what
+/// `value` holds.
 ///
 /// ```
 /// match from_value(alloc, &value) {
@@ -32,9 +33,10 @@ use std::alloc::Global;
 /// ```
 ///
 /// # Errors
-/// `Shape` exactly if no tree has the value: a key is unknown or missing, or a value is of another kind than the
-/// table has there, so also if there is a number; the version is another one; or there is none, and a select is by
-/// a message's attribute. `Memory` if memory runs out. Nothing of the tree is left after either.
+/// `Shape` exactly if no tree has the value: a key is unknown or missing, or a value is of another
+/// kind than the table has there, so also if there is a number; the version is another one; or
+/// there is none, and a select is by a message's attribute. `Memory` if memory runs out. Nothing of
+/// the tree is left after either.
 pub fn from_value(alloc: Global, value: &Value) -> Result<Resource<String>, FromValueError>
     ensures ok { IfOk result (λ resource. HasValue (plain resource) (view value.now)) }
     ensures inverse { (tree : List PlainEntry) → HasValue tree (view value.now)

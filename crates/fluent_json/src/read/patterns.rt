@@ -1,6 +1,7 @@
 //! From JSON values to identifiers, patterns and expressions.
 //!
-//! Each function gives the part of a tree that has the value, or `Shape` if no part of that kind has it.
+//! Each function gives the part of a tree that has the value, or `Shape` if no part of that kind
+//! has it.
 
 ghost use Rattle.std.specs.Prelude.{◌≡◌, IfOk};
 ghost use Rattle.serde_json.specs.View.{view, items_view};

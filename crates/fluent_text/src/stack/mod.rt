@@ -1,9 +1,10 @@
 //! A bound on the machine's stack that nested expressions take.
 //!
-//! The functions that read and resolve call themselves for each placeable, call and select inside another, so a small
-//! source can nest deep enough to use up the machine's stack. A [`Stack`] counts the bytes that are open, and refuses
-//! what would go past its [`StackBudget`]. Costs are named in [`reading`] and [`resolving`]: sums of what the functions
-//! take of the stack as compiled for x86-64, rounded up.
+//! The functions that read and resolve call themselves for each placeable, call and select inside
+//! another, so a small source can nest deep enough to use up the machine's stack. A [`Stack`]
+//! counts the bytes that are open, and refuses what would go past its [`StackBudget`]. Costs are
+//! named in [`reading`] and [`resolving`]: sums of what the functions take of the stack as compiled
+//! for x86-64, rounded up.
 #![tactic(auto)]
 
 ghost use Rattle.std.specs.Prelude.{◌≡◌, ◌+◌, ◌-◌, ◌<◌, ◌≤◌, OnErr, OnOk};
@@ -15,8 +16,8 @@ use std::alloc::AllocError;
 
 /// How many bytes of the machine's stack may be open at once.
 ///
-/// The bytes are those that [`Stack::open`] is called with, not measured ones. A program leaves room beside them, for
-/// its own functions and for those that don't nest.
+/// The bytes are those that [`Stack::open`] is called with, not measured ones. A program leaves
+/// room beside them, for its own functions and for those that don't nest.
 #[derive(Clone, Copy)]
 pub struct StackBudget {
     bytes: usize,

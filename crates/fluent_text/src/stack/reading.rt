@@ -1,5 +1,5 @@
-//! What reading takes of the machine's stack, in bytes: the sum of the parser's functions that one level enters, for
-//! texts that are `String`s. For `&str` each takes less.
+//! What reading takes of the machine's stack, in bytes: the sum of the parser's functions that one
+//! level enters, for texts that are `String`s. For `&str` each takes less.
 #![tactic(auto)]
 
 /// A placeable, in an expression (992) or in a pattern (1,088).

@@ -60,7 +60,8 @@ impl<'args, C: FluentType> FluentArgs<'args, C> {
     }
 }
 
-/// Of no more arguments than these each is looked at for a name: most names differ in their lengths.
+/// Of no more arguments than these each is looked at for a name: most names differ in their
+/// lengths.
 const FEW: usize = 8;
 
 /// The value of the first of these arguments that has a name.
@@ -79,7 +80,8 @@ fn value_among<'v, 'args, C: FluentType>(
     None
 }
 
-/// Puts an argument in at an index. Only those after it are moved, of which there are none at the end.
+/// Puts an argument in at an index. Only those after it are moved, of which there are none at the
+/// end.
 ///
 /// # Errors
 /// [`AllocError`] if memory runs out; the arguments are unchanged.
@@ -100,9 +102,9 @@ fn put_in<'args, C: FluentType + Drop>(
 }
 
 impl<'args, C: FluentType + Drop> FluentArgs<'args, C> {
-    /// Gives a name a value, in the place of the one that it has, if it has one; then it doesn't allocate, and
-    /// succeeds. A name is whatever converts to a [`CowStr`], and a value whatever converts to a [`FluentValue`]:
-    /// `args.set("count", 3)`.
+    /// Gives a name a value, in the place of the one that it has, if it has one; then it doesn't
+    /// allocate, and succeeds. A name is whatever converts to a [`CowStr`], and a value whatever
+    /// converts to a [`FluentValue`]: `args.set("count", 3)`.
     ///
     /// ```
     /// args.set("name", "Jane")?;
@@ -125,8 +127,9 @@ impl<'args, C: FluentType + Drop> FluentArgs<'args, C> {
         self.set_value(name.into(), value.into())
     }
 
-    /// Gives a name a value, as [`set`](FluentArgs::set) does, without a conversion. Code that is generic in the program's type
-    /// of values sets a [`FluentValue`] by this call: no proof covers an identity conversion at a type that isn't known.
+    /// Gives a name a value, as [`set`](FluentArgs::set) does, without a conversion. Code that is
+    /// generic in the program's type of values sets a [`FluentValue`] by this call: no proof covers
+    /// an identity conversion at a type that isn't known.
     ///
     /// # Errors
     /// [`AllocError`] if memory runs out; the arguments are unchanged.

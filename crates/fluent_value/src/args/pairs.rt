@@ -11,8 +11,9 @@ use std::alloc::{AllocError, Global};
 use std::borrow::CowStr;
 
 impl<'args, C: FluentType + Drop> FluentArgs<'args, C> {
-    /// The arguments that these pairs of a name and a value give, set one after the other: of a name that comes twice the
-    /// last value stands. Names and values are what [`set`](FluentArgs::set) takes.
+    /// The arguments that these pairs of a name and a value give, set one after the other: of a
+    /// name that comes twice the last value stands. Names and values are what
+    /// [`set`](FluentArgs::set) takes.
     ///
     /// # Errors
     /// [`AllocError`] if memory runs out; nothing is kept.

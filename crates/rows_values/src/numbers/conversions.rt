@@ -4,7 +4,8 @@ use fluent_number::{Decimal, FluentNumber};
 use rows_common::Row;
 use std::str::SplitWhitespace;
 
-/// Whether a sign, a whole part and a fraction make the decimal whose parts stand after them, or `none`.
+/// Whether a sign, a whole part and a fraction make the decimal whose parts stand after them, or
+/// `none`.
 pub fn are_parts(row: Row<'_>) -> Option<bool> {
     let made = decimal_of(row.subject)?;
     if row.wanted == "none" {
@@ -38,7 +39,8 @@ fn parts_of(words: &str) -> Option<(bool, u64, u64)> {
     ))
 }
 
-/// Whether a number is cut to its integers: in `i8`, `i16`, `i32`, `i64`, `isize` and `i128`, and in those without a sign.
+/// Whether a number is cut to its integers: in `i8`, `i16`, `i32`, `i64`, `isize` and `i128`, and
+/// in those without a sign.
 pub fn is_cut(row: Row<'_>) -> Option<bool> {
     let number = row.subject.parse::<FluentNumber>().ok()?;
     Some(is_cut_to_signed(&number, row.by) && is_cut_to_unsigned(&number, row.wanted))

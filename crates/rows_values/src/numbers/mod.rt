@@ -1,4 +1,5 @@
-//! Rows of numbers: which texts are numbers, what numbers are written as, their integers, operands, categories and options.
+//! Rows of numbers: which texts are numbers, what numbers are written as, their integers, operands,
+//! categories and options.
 
 mod conversions;
 mod copies;

@@ -6,7 +6,8 @@ use fluent_number::{
 use rows_common::Row;
 use std::str::SplitWhitespace;
 
-/// Whether a number, which may be to have so many fraction digits at least, has these operands `i`, `v`, `w`, `f` and `t`.
+/// Whether a number, which may be to have so many fraction digits at least, has these operands `i`,
+/// `v`, `w`, `f` and `t`.
 pub fn are_operands(row: Row<'_>) -> Option<bool> {
     let mut number = row.subject.parse::<FluentNumber>().ok()?;
     if !row.by.is_empty() {

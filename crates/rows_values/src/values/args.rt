@@ -1,7 +1,8 @@
 //! Arguments: values by name, in the order of the names' bytes.
 //!
-//! They are written as names with the words of their values after `=`, and `;` between. A row says what they are made by:
-//! `new`, with `room` for two, or as `pairs`, of two of them with `+` between.
+//! They are written as names with the words of their values after `=`, and `;` between. A row says
+//! what they are made by: `new`, with `room` for two, or as `pairs`, of two of them with `+`
+//! between.
 
 use crate::values::count::{Count, Value};
 use crate::values::made::value_of;

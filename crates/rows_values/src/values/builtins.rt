@@ -1,7 +1,8 @@
 //! The function `NUMBER`.
 //!
-//! A row has its values, with `;` between, and its options, as arguments are written. What it gives is a text and the type of
-//! number, or `usual` where all options are as they are by themselves; or an `error`.
+//! A row has its values, with `;` between, and its options, as arguments are written. What it gives
+//! is a text and the type of number, or `usual` where all options are as they are by themselves; or
+//! an `error`.
 
 use crate::values::args::args_of;
 use crate::values::count::Value;

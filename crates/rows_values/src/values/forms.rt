@@ -1,7 +1,8 @@
 //! How values hold what they hold.
 //!
-//! A row says how a value is got: it is `made`, `copied`, made `owned`, `shown`, or `handed` to what shows it; or its text is
-//! `lent` to it. It is `borrowed` or `owned` then with its text, a `number`, a `count`, `none` or `error`.
+//! A row says how a value is got: it is `made`, `copied`, made `owned`, `shown`, or `handed` to
+//! what shows it; or its text is `lent` to it. It is `borrowed` or `owned` then with its text, a
+//! `number`, a `count`, `none` or `error`.
 
 use crate::values::count::Value;
 use crate::values::made::value_of;

@@ -1,8 +1,9 @@
 //! Values, as rows write them: what a value is made of, and after a space its text.
 //!
-//! `text` and `cow` are borrowed texts, `own` is one of its own, and `some` one that may be absent, as `absent` is. `read` is
-//! what a text is read as, and `place` the same as a place in an order. `i32` is an integer, and `some_u8` is one that may be
-//! absent; `number` is a `FluentNumber`. `count` is a value of the program's own, and there are `none` and `error`.
+//! `text` and `cow` are borrowed texts, `own` is one of its own, and `some` one that may be absent,
+//! as `absent` is. `read` is what a text is read as, and `place` the same as a place in an order.
+//! `i32` is an integer, and `some_u8` is one that may be absent; `number` is a `FluentNumber`.
+//! `count` is a value of the program's own, and there are `none` and `error`.
 
 use crate::values::count::{Count, Value};
 use fluent_number::{FluentNumber, FluentNumberType};

@@ -1,5 +1,5 @@
-//! Rows of values: what they are made of, which are equal, which match and what they are shown as, what arguments hold, and
-//! what the function `NUMBER` gives. [`made`] says how values are written.
+//! Rows of values: what they are made of, which are equal, which match and what they are shown as,
+//! what arguments hold, and what the function `NUMBER` gives. [`made`] says how values are written.
 
 mod args;
 mod builtins;

@@ -33,7 +33,8 @@ fn is_text(shown: Result<CowStr<'_>, AllocError>, wanted: &str) -> Option<bool> 
     Some(text.as_str() == wanted)
 }
 
-/// Whether a count is shown as its row says, by its type and by the plural source, and is what it is copied as.
+/// Whether a count is shown as its row says, by its type and by the plural source, and is what it
+/// is copied as.
 pub fn is_own(alloc: Global, row: Row<'_>) -> Option<bool> {
     let count = Count(row.subject.parse::<u32>().ok()?);
     Some(

@@ -1,4 +1,5 @@
-//! Texts that are numbers, the fraction digits that they ask for, and what the numbers are shown as.
+//! Texts that are numbers, the fraction digits that they ask for, and what the numbers are shown
+//! as.
 
 use crate::values::count::Value;
 use fluent_value::FluentValue;

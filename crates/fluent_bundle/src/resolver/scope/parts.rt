@@ -1,4 +1,5 @@
-//! What each call of a scope is made of: the scope's own part is handed on, and put back at the end.
+//! What each call of a scope is made of: the scope's own part is handed on, and put back at the
+//! end.
 
 ghost use Rattle.std.specs.Prelude.{◌≡◌, None, Some, is_some, option_map};
 ghost use Rattle.fluent_ast.specs.Borrowed.{elements_of};
@@ -91,7 +92,8 @@ where
         }
     }
 
-    /// Tells that what an expression refers to is unknown, and writes its fallback. The only error is that memory runs out.
+    /// Tells that what an expression refers to is unknown, and writes its fallback. The only error
+    /// is that memory runs out.
     fn write_unknown(
         &mut self,
         out: &mut String,
@@ -172,7 +174,8 @@ where
         written
     }
 
-    /// Tells what an expression refers to as unknown, and writes its fallback. The only error is that memory runs out.
+    /// Tells what an expression refers to as unknown, and writes its fallback. The only error is
+    /// that memory runs out.
     pub(super) fn write_missed(
         &mut self,
         out: &mut String,
