@@ -6,15 +6,16 @@
 Each block of code in a page is cut from an example, and each in the doc comment of a public crate from an example or
 another crate that the gate proves or tries, unless its fence is `no_run`: such a block was only tried once. Each public
 type that programs use has a block. Each link leads to a file and a heading that are there, and so does each path in
-`crates` that a page names; each page that a comment names is there; no line of prose in a page is wider than 120 columns;
-no page has words that docs/style.md leaves out, and no comment of the code, its definitions and its proofs has "behind"
-for "after"; each call in a shell block of a page prints what follows it there; each public call that can fail says how,
-under `# Errors`; no clause is longer than 200 characters, and at most 33 are longer than 120; each file that names the
-version names the same one, and each that lists the codes of findings lists the same ones; each place that names the
-version of CLDR names that of tools/cldr.txt; crates.txt is read alike in Python and in shell; the library for C and the
-packages for Rust and Python have the numbers, structs and calls of its header; the counts of crates and functions in the
-pages on proofs are those of the sources; the figures that a file of results has are those of the pages; and each law,
-function and clause that a row of `proved.md` names is in the row's crates.
+`crates` that a page names; each page that a comment names is there; no line of prose in a page is wider than 120
+columns; no page has words that docs/style.md leaves out, and no comment of the code, its definitions and its proofs has
+"behind" for "after"; no comment of code is wider than 100 columns, and no doc comment begins with "The same"; each call
+in a shell block of a page prints what follows it there; each public call that can fail says how, under `# Errors`; no
+clause is longer than 200 characters, and at most 33 are longer than 120; each file that names the version names the
+same one, and each that lists the codes of findings lists the same ones; each place that names the version of CLDR names
+that of tools/cldr.txt; crates.txt is read alike in Python and in shell; the library for C and the packages for Rust and
+Python have the numbers, structs and calls of its header; the counts of crates and functions in the pages on proofs are
+those of the sources; the figures that a file of results has are those of the pages; and each law, function and clause
+that a row of `proved.md` names is in the row's crates.
 
 Prints what isn't so, then how many of these checks passed and failed, and ends with 1 if one failed. The calls of shell
 blocks need a built program, which is `crates/ftl/out/ftl` if no other is named: without it they are skipped. `--calls` runs
@@ -32,6 +33,7 @@ from pathlib import Path
 
 sys.path.insert(0, str(Path(__file__).resolve().parents[1]))
 
+import reflow
 from lib import c_interface, cldr
 from lib.crates import below, uses
 
@@ -62,6 +64,8 @@ CODES = {
     'crates/ftl_arguments/src/program.rt': r'^const CODES_AND_EXAMPLE: &str = "Codes:\n(.*?)\n\n',
 }
 WIDEST = 120
+# How long the README is at most: lines, links, and words a sentence.
+README_LINES, README_LINKS, README_WORDS = 110, 25, 15
 PROGRAM = (ARGUMENTS.program or ROOT / 'crates/ftl/out/ftl').resolve()
 # What `./ftl` is in a page.
 SCRIPT = """#!/bin/sh
@@ -274,6 +278,25 @@ def words_left_out():
     return [word for row in rows for word in row.split(', ')]
 
 
+def sentences(page):
+    """The sentences of a page's prose: no code, tables, headings or pictures, and of links their words."""
+    prose = re.sub(r'^```.*?^```$', '', page, flags=re.S | re.M)
+    prose = '\n'.join(line for line in prose.split('\n') if not re.match(r'    |\||#|!\[', line))
+    prose = re.sub(r'\[([^\]]*)\]\([^)]*\)', r'\1', prose)
+    for paragraph in re.split(r'\n\s*\n|\n(?=- )', prose):
+        yield from filter(str.strip, re.split(r'(?<=[.:!?])\s+', paragraph))
+
+
+def long_readme():
+    """The README is read by a person in a hurry."""
+    page = (ROOT / 'README.md').read_text()
+    counts = [len(sentence.split()) for sentence in sentences(page)]
+    for what, count, most in [('lines', page.count('\n'), README_LINES), ('links', page.count(']('), README_LINKS),
+                              ('words a sentence', sum(counts) / len(counts), README_WORDS)]:
+        if count > most:
+            yield f'README.md: {count:.4g} {what}, and at most {most} are read'
+
+
 def wrong_words():
     left_out = re.compile(r'\b(' + '|'.join(map(re.escape, words_left_out())) + r')\b', re.I)
     for page in PAGES:
@@ -289,6 +312,14 @@ def wrong_comments():
                 comment = re.search(rf'(?:^|\s){sign}(?:\s|$)(.*)', line)
                 if comment and re.search(r'\bbehind\b', GOOD_BEHIND.sub('', comment.group(1)), re.I):
                     yield f'{place_of(path, number)}: the style leaves out "behind"'
+                if path.suffix == '.rs' and re.match(r'\s*//[/!] The same\b', line):
+                    yield f'{place_of(path, number)}: a doc comment that begins with "The same" can\'t be read alone'
+
+
+def wide_comments():
+    for path, lines in reflow.files_below(ROOT):
+        for number in reflow.too_wide(path, lines):
+            yield f'{place_of(path, number)}: the comment is wider than {reflow.WIDEST} columns'
 
 
 def versions_named():
@@ -557,7 +588,8 @@ def wrong_rows():
 def checks():
     """The checks that are asked for."""
     if not ARGUMENTS.calls:
-        yield from (wrong_quotes, types_without_examples, wrong_links, wide_prose, wrong_words, wrong_comments,
+        yield from (wrong_quotes, types_without_examples, wrong_links, wide_prose, long_readme, wrong_words,
+                    wrong_comments, wide_comments,
                     silent_calls, long_clauses, other_versions, other_codes, other_cldr, other_readers, other_interfaces,
                     wrong_counts, wrong_figures, wrong_rows)
     if ARGUMENTS.sources:

@@ -136,33 +136,57 @@ def places(lines):
             yield count
 
 
+def too_wide(path, lines):
+    """The numbers of the lines of code's comments that are too wide, and can be laid in more lines."""
+    if path.suffix == '.md':
+        return
+    is_fenced = False
+    for number, line in enumerate(lines, 1):
+        is_fence = bool(re.match(r' *//[/!]? ```', line))
+        is_fenced ^= is_fence
+        found = COMMENT.match(line)
+        if found and len(line) > WIDEST and not is_fenced and not is_fence:
+            if len(pieces(found[3])) > 1 and not found[3].startswith('|'):
+                yield number
+
+
+def files_below(root):
+    """The files below a folder that comments are laid in, without those that a script writes, and their lines."""
+    return with_lines(sorted(path for name in FILES for path in root.glob(name)))
+
+
+def with_lines(paths):
+    for path in paths:
+        lines = path.read_text(encoding='utf-8').split('\n')
+        if not any(map(GENERATED.match, lines[:3])):
+            yield path, lines
+
+
+def laid_anew(path, old):
+    """The lines of a file with its comments laid anew."""
+    new = [*(in_fences(old) if path.suffix == '.md' else reflowed(old))]
+    if code(old) != code(new) or words(old) != words(new) or [*places(old)] != [*places(new)]:
+        sys.exit(f'{path}: more than comments would change')
+    return new
+
+
 def main():
     arguments = [it for it in sys.argv[1:] if it != '--check']
     root = Path(arguments[0] if arguments else '.')
-    files = [root / it for it in arguments[1:]] or sorted(path for name in FILES for path in root.glob(name))
-    changed = wide = 0
-    for path in files:
-        old = path.read_text(encoding='utf-8').split('\n')
-        if any(map(GENERATED.match, old[:3])):
-            continue
-        is_fenced = False
-        is_page = path.suffix == '.md'
-        new = [*(in_fences(old) if is_page else reflowed(old))]
-        if code(old) != code(new) or words(old) != words(new) or [*places(old)] != [*places(new)]:
-            sys.exit(f'{path}: more than comments would change')
-        for number, line in enumerate(new, 1):
-            is_fence = bool(re.match(r' *//[/!]? ```', line))
-            is_fenced ^= is_fence
-            found = COMMENT.match(line)
-            if found and len(line) > WIDEST and not is_page and not is_fenced and len(pieces(found[3])) > 1 and not found[3].startswith('|'):
-                print(f'{path.relative_to(root)}:{number}: {len(line)} columns')
-                wide += 1
+    count = changed = wide = 0
+    for path, old in with_lines(root / it for it in arguments[1:]) if arguments[1:] else files_below(root):
+        new = laid_anew(path, old)
+        for number in too_wide(path, new):
+            print(f'{path.relative_to(root)}:{number}: {len(new[number - 1])} columns')
+            wide += 1
+        count += 1
         if new != old:
             changed += 1
             if '--check' not in sys.argv:
                 path.write_text('\n'.join(new), encoding='utf-8')
-    print(f'{changed} of {len(files)} files changed, {wide} lines are still too wide')
+    print(f'{changed} of {count} files changed, {wide} lines are still too wide')
     sys.exit(wide > 0)
 
 
-main()
+if __name__ == '__main__':
+    main()

@@ -24,7 +24,8 @@ BEGINNINGS = {
     'bindings/python/README.md': 'python.md',
     'bindings/rust/README.md': 'cargo.md',
 }
-# Sections for someone with the repository.
+# Pages and sections for someone with the repository.
+OF_THE_REPOSITORY = ('install.md', 'style.md')
 LEFT_OUT = re.compile(r'^## (?:Build it|Tests)\n.*?(?=^## |\Z)', re.M | re.S)
 LINK = re.compile(r'!?\[([^\]]*)\]\(([^)\s#]+)(#[^)\s]*)?\)')
 
@@ -32,7 +33,7 @@ LINK = re.compile(r'!?\[([^\]]*)\]\(([^)\s#]+)(#[^)\s]*)?\)')
 def released(root: Path) -> dict[str, Path]:
     """The files of the repository that a release has, and where it has them."""
     pages = [page for folder in ('docs', 'docs/guide', 'docs/reference', 'bindings', 'bindings/c', 'bindings/python')
-             for page in root.glob(f'{folder}/*.md') if page.name != 'style.md']
+             for page in root.glob(f'{folder}/*.md') if page.name not in OF_THE_REPOSITORY]
     sources = [path for pattern in ('*.ftl', 'l10n/*/main.ftl') for path in root.glob(f'examples/{pattern}')]
     places = {str(path.relative_to(root)): DOC / path.relative_to(root) for path in sorted(pages + sources)}
     places |= {f'bindings/c/{name}.c': DOC / 'examples' / f'{name}.c' for name in EXAMPLES}

@@ -1,4 +1,4 @@
-//! The same numbers by the Rust crate `fluent-syntax`.
+//! Measures the Rust crate `fluent-syntax` as the benchmark measures this library.
 
 use crate::json;
 use crate::ours::Counts;

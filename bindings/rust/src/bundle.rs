@@ -86,7 +86,7 @@ impl<R: Borrow<FluentResource>> FluentBundle<R> {
         }
     }
 
-    /// The same as [`FluentBundle::new`]: each bundle can be shared by threads.
+    /// A bundle as [`FluentBundle::new`] makes it: threads can share every bundle.
     pub fn new_concurrent<L: fmt::Display>(locales: Vec<L>) -> Self {
         FluentBundle::new(locales)
     }

@@ -36,7 +36,7 @@ impl Decimal {
         Some(Decimal::new(is_negative, whole, units(digits)))
     }
 
-    /// The same for more digits after the point, which are rounded to 18: away from zero if the rest is a half.
+    /// Reads a text with any number of digits after the point, rounded to 18: away from zero if the rest is a half.
     pub(crate) fn rounded(text: &str) -> Option<Decimal> {
         let (is_negative, whole, digits) = parts(text)?;
         let (kept, rest) = digits.split_at(digits.len().min(DIGITS));

@@ -121,7 +121,7 @@ impl<R: Borrow<FluentResource>> Localization<R> {
         self.format_first(id, args, errors, |message| message.value())
     }
 
-    /// The same for the first attribute of a name.
+    /// The text of the first attribute of this name, from the first bundle that has it.
     pub fn format_attribute<'l>(
         &'l self,
         id: &str,
