@@ -30,7 +30,7 @@ out=${1:-$root/release}
 mkdir -p "$out"
 folder=$(cd "$out" && pwd)/$name
 rm -rf "$folder" "$folder.tar.gz"
-mkdir -p "$folder"/{bin,lib/pkgconfig,include,share/cargo,share/python}
+mkdir -p "$folder"/{bin,lib/pkgconfig,lib/cmake/kozhvadi,include,share/cargo,share/python}
 
 # The time that files get: that of the commit.
 SOURCE_DATE_EPOCH=$(git -C "$root" log -1 --format=%ct 2>/dev/null || echo 1577836800)
@@ -63,8 +63,12 @@ library_part() {
     ln -s "libfluent_c.so.$version" "$folder/lib/libfluent_c.so.0"
     ln -s libfluent_c.so.0 "$folder/lib/libfluent_c.so"
     rm -rf "$parts"
-    install -m 644 "$header"/*.h "$folder/include"
+    install -m 644 "$header"/*.h "$root/bindings/cpp/fluent.hpp" "$folder/include"
     sed "s/@VERSION@/$version/" "$made/fluent_c.pc" >"$folder/lib/pkgconfig/fluent_c.pc"
+    local file
+    for file in "$made"/cmake/*.cmake; do
+        sed "s/@VERSION@/$version/" "$file" >"$folder/lib/cmake/kozhvadi/${file##*/}"
+    done
 }
 
 cargo_part() {

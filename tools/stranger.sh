@@ -98,6 +98,29 @@ c_program() {
         [ "$(./static)" = "$(./a.out)" ]
 }
 
+# The program of the page for C++, found by CMake over the shared library and over the static one; and the example.
+cpp_program() {
+    local doc=home/.local/share/doc/kozhvadi target
+    mkdir cpp && sed '1,/^```cpp$/d;/^```$/,$d' "$doc/bindings/cpp/README.md" >cpp/first.cpp || return
+    cat >cpp/CMakeLists.txt <<'CMAKE'
+cmake_minimum_required(VERSION 3.13)
+project(stranger CXX)
+find_package(kozhvadi 0.1 REQUIRED)
+foreach(kind IN ITEMS fluent fluent_static)
+    add_executable(first_${kind} first.cpp)
+    target_link_libraries(first_${kind} PRIVATE kozhvadi::${kind})
+endforeach()
+add_executable(notes ${NOTES})
+target_link_libraries(notes PRIVATE kozhvadi::fluent)
+CMAKE
+    cmake -S cpp -B cpp/built -DCMAKE_PREFIX_PATH="$room/home/.local" -DNOTES="$room/$doc/examples/notes.cpp" &&
+        cmake --build cpp/built || return
+    for target in fluent fluent_static; do
+        [ "$(cpp/built/first_$target)" = '3 messages are unread.' ] || return
+    done
+    [ "$(echo b | env -i LANG=de cpp/built/notes "$doc/examples/notes" | tail -n 1)" = 'Auf Wiedersehen, friend.' ]
+}
+
 exports_the_header_alone() {
     diff <(nm -D --defined-only home/.local/lib/libfluent_c.so | sed -n 's/.* T //p' | sed 's/@.*//' | sort) \
         <(grep -o '\bfluent_[a-z_]* *(' home/.local/include/fluent_c.h | tr -d ' (' | sort -u)
@@ -159,6 +182,7 @@ step_with tar 'it installs and is removed' installs
 step_with tar 'a damaged release is not installed' damage_is_noticed
 step_with python3 'the links of its pages lead somewhere' links_lead_somewhere
 step_with 'cc pkg-config' 'a C program links it by pkg-config, and runs' c_program
+step_with 'c++ cmake' 'a C++ program finds it by CMake, and runs' cpp_program
 step_with nm 'the shared library gives out the header alone' exports_the_header_alone
 step_with python3 'pip installs the wheel, and a program uses it' python_program
 step_with python3 'its language server and its playground begin' python_tools

@@ -1,5 +1,5 @@
 #!/usr/bin/env python3
-"""Puts the pages, the C examples and the sources that they use into a release.
+"""Puts the pages, the examples in C and C++ and the sources that they use into a release.
 
     pages.py ROOT RELEASE
 
@@ -32,12 +32,15 @@ LINK = re.compile(r'!?\[([^\]]*)\]\(([^)\s#]+)(#[^)\s]*)?\)')
 
 def released(root: Path) -> dict[str, Path]:
     """The files of the repository that a release has, and where it has them."""
-    pages = [page for folder in ('docs', 'docs/guide', 'docs/reference', 'bindings', 'bindings/c', 'bindings/python')
-             for page in root.glob(f'{folder}/*.md') if page.name not in OF_THE_REPOSITORY]
-    sources = [path for pattern in ('*.ftl', 'l10n/*/main.ftl') for path in root.glob(f'examples/{pattern}')]
+    folders = ('docs', 'docs/guide', 'docs/reference', 'bindings', 'bindings/c', 'bindings/cpp', 'bindings/python')
+    pages = [page for folder in folders for page in root.glob(f'{folder}/*.md') if page.name not in OF_THE_REPOSITORY]
+    patterns = ('*.ftl', 'l10n/*/main.ftl', 'notes/*/notes.ftl')
+    sources = [path for pattern in patterns for path in root.glob(f'examples/{pattern}')]
     places = {str(path.relative_to(root)): DOC / path.relative_to(root) for path in sorted(pages + sources)}
     places |= {f'bindings/c/{name}.c': DOC / 'examples' / f'{name}.c' for name in EXAMPLES}
-    places |= {str(path.relative_to(root)): Path('include') / path.name for path in root.glob('crates/fluent_c/*.h')}
+    places['bindings/cpp/notes.cpp'] = DOC / 'examples' / 'notes.cpp'
+    headers = [*root.glob('crates/fluent_c/*.h'), root / 'bindings/cpp/fluent.hpp']
+    places |= {str(path.relative_to(root)): Path('include') / path.name for path in headers}
     return places | {
         'CHANGELOG.md': DOC / 'CHANGELOG.md',
         'crates/fluent_plurals/LICENSE-UNICODE': DOC / 'LICENSE-UNICODE',
@@ -67,15 +70,16 @@ def page_of(root: Path, page: str, places: dict[str, Path]) -> str:
         text = beginning + text[text.index('\n## '):]
     text = linked(LEFT_OUT.sub('', text).rstrip() + '\n', page, places)
     examples = os.path.relpath(DOC / 'examples', CARGO)
-    return re.sub(r'\bbindings/c/(\w+\.c)\b', r'examples/\1', text).replace('"../../examples/', f'"{examples}/')
+    return re.sub(r'\bbindings/c(?:pp)?/(\w+\.c(?:pp)?)\b', r'examples/\1', text).replace('"../../examples/', f'"{examples}/')
 
 
 def example_of(root: Path, example: str) -> str:
-    """A C program with the way to build it from a release."""
-    name = Path(example).stem
+    """A program in C or C++ with the way to build it from a release."""
+    name, compiler = Path(example), 'cc' if example.endswith('.c') else 'c++ -std=c++17'
     text = (root / example).read_text(encoding='utf-8')
     return text.replace(
-        'Build and run it by run.sh beside this file.', f'Build it: cc {name}.c $(pkg-config --cflags --libs fluent_c) -o {name}')
+        'Build and run it by run.sh beside this file.',
+        f'Build it: {compiler} {name.name} $(pkg-config --cflags --libs fluent_c) -o {name.stem}')
 
 
 def main() -> None:
@@ -87,7 +91,7 @@ def main() -> None:
         (release / place).parent.mkdir(parents=True, exist_ok=True)
         if path.endswith('.md'):
             (release / place).write_text(page_of(root, path, places), encoding='utf-8')
-        elif path.endswith('.c'):
+        elif path.endswith(('.c', '.cpp')):
             (release / place).write_text(example_of(root, path), encoding='utf-8')
         else:
             shutil.copyfile(root / path, release / place)

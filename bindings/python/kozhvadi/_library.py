@@ -179,6 +179,7 @@ def _load() -> ctypes.CDLL:
         ],
         "fluent_parse": [ctypes.c_char_p, size, ctypes.POINTER(FluentCounts)],
         "fluent_occurrences": [ctypes.c_char_p, size, text],
+        "fluent_write_json": [ctypes.c_char_p, size, text],
         "fluent_lint": [
             ctypes.POINTER(FluentFile), size, ctypes.POINTER(FluentFile), size, ctypes.POINTER(FluentLintOptions), text,
         ],

@@ -1,0 +1,58 @@
+#!/bin/sh
+# Builds the program of README.md over the static library with each compiler for C++ that is there, as C++17, C++20 and C++23,
+# and lets no warning through; each has to print what the page says. Builds the tests of the folder `tests` with the sanitizers
+# for addresses and undefined behavior, and with the one for threads, and runs them; and the example notes.cpp, which has to
+# print `notes.expected`. A compiler without a sanitizer builds the tests without it.
+set -eu
+here=$(cd "$(dirname "$0")" && pwd)
+root=$(cd "$here/../.." && pwd)
+. "$root/bindings/library.sh"
+built=$(mktemp -d)
+trap 'rm -rf "$built"' EXIT
+strict='-Wall -Wextra -Wpedantic -Wold-style-cast -Wshadow -Wconversion -Wzero-as-null-pointer-constant -Werror'
+
+# build COMPILER OUT FLAGS.. FILES..: a program over the library.
+build() {
+    compiler=$1 out=$2
+    shift 2
+    "$compiler" $strict -pthread "$@" -I "$here" -I "$header" -o "$out" -L "$library" -lfluent_c -L "$kit" -llibc_c
+}
+
+compilers=
+for compiler in g++ clang++; do
+    if command -v $compiler >/dev/null; then compilers="$compilers $compiler"; fi
+done
+compilers=${compilers:- c++}
+first=${compilers# } last=${compilers##* }
+first=${first%% *}
+
+sed '1,/^```cpp$/d;/^```$/,$d' "$here/README.md" >"$built/first.cpp"
+for compiler in $compilers; do
+    for standard in 17 20 2b; do
+        build $compiler "$built/first" -std=c++$standard "$built/first.cpp"
+        printed=$("$built/first")
+        grep -qF "\`$printed\`" "$here/README.md"
+        echo "$compiler, C++$standard: $printed"
+    done
+done
+
+echo 'int main() { return 0; }' >"$built/none.cpp"
+# Builds the tests with a sanitizer, and runs them. Its words are the compiler and the sanitizers.
+run_tests() {
+    sanitizer="-fsanitize=$2 -fno-sanitize-recover=all"
+    { $1 $sanitizer -o "$built/none" "$built/none.cpp" && "$built/none"; } 2>/dev/null || sanitizer=
+    for test in "$here"/tests/*.cpp; do
+        $1 $strict -std=c++17 -O1 -g $sanitizer -pthread -I "$here" -I "$header" -c -o "$built/$(basename "$test" .cpp).o" "$test"
+    done
+    $1 $sanitizer -pthread -o "$built/tests" "$built"/*.o -L "$library" -lfluent_c -L "$kit" -llibc_c
+    printf '%s' "$1, ${sanitizer:-without sanitizers}: "
+    "$built/tests" "$root/examples/l10n"
+}
+run_tests "$first" address,undefined
+run_tests "$last" thread
+
+build "$last" "$built/notes" -std=c++17 "$here/notes.cpp"
+for language in de en pl_PL.UTF-8 fr; do
+    env -i LANG=$language "$built/notes" "$root/examples/notes" <"$here/notes.input"
+done >"$built/notes.printed"
+diff "$here/notes.expected" "$built/notes.printed"

@@ -1,0 +1,110 @@
+"""Reads sources."""
+
+from __future__ import annotations
+
+import gc
+import json
+from collections.abc import Iterator
+from contextlib import contextmanager
+from functools import partial
+from typing import Any, cast
+
+from .. import _library as c
+from .._bundle import Bundle
+from .._errors import SourceError
+from .._linting import refuse
+from .._values import encoded
+from . import ast
+from ._placed import Reader
+from .errors import CODES
+
+
+class FluentParser:
+    """Reads sources into trees. `with_spans=False` leaves out where nodes are.
+
+    The library reads the source, as it does for all its calls; what it can't read is junk.
+    """
+
+    def __init__(self, with_spans: bool = True) -> None:
+        self.with_spans = with_spans
+
+    def parse(self, source: str) -> ast.Resource:
+        """The tree of a source.
+
+        Raises `ValueError` if the source can't be written in UTF-8, and `MemoryError` if it nests too deep for 1.5 MB of
+        the machine's stack.
+        """
+        counts = c.FluentCounts()
+        text = encoded(source, "the source")
+        _checked(c.library.fluent_parse(text, len(text), counts))
+        span = ast.Span(0, len(source)) if self.with_spans else None
+        return ast.Resource.of(span, partial(_entries, source, self.with_spans))
+
+    def parse_entry(self, source: str) -> ast.EntryType:
+        """The first message or term of a source, or junk. Comments before it are passed over, its own too."""
+        for entry in self.parse(source).body:
+            if isinstance(entry, (ast.Message, ast.Term)):
+                if entry.comment is not None and entry.span is not None:
+                    entry.span.start = cast(ast.Span, entry.id.span).start - isinstance(entry, ast.Term)
+                entry.comment = None
+                return entry
+            if isinstance(entry, ast.Junk):
+                return entry
+        return ast.Junk("")
+
+
+def _checked(status: int) -> None:
+    if status != c.READ:
+        refuse(status, "the source")
+
+
+def _entries(source: str, with_spans: bool) -> list[ast.EntryType]:
+    """The entries of a source."""
+    with _without_collector():
+        entries = Reader(source, with_spans).entries(_tree(source.encode())["body"])
+    junk = [entry for entry in entries if isinstance(entry, ast.Junk)]
+    if junk:
+        _annotate(source, junk, with_spans)
+    return entries
+
+
+@contextmanager
+def _without_collector() -> Iterator[None]:
+    """Keeps the garbage collector from going over nodes while they are made, which would take twice as long."""
+    is_collecting = gc.isenabled()
+    gc.disable()
+    try:
+        yield
+    finally:
+        if is_collecting:
+            gc.enable()
+
+
+def _tree(source: bytes) -> Any:
+    """The tree of a source, as docs/reference/json.md has it."""
+    made = c.FluentText()
+    try:
+        _checked(c.library.fluent_write_json(source, len(source), made))
+        return json.loads(c.string_of(made))
+    finally:
+        c.library.fluent_free_text(made)
+
+
+def _annotate(source: str, junk: list[ast.Junk], with_spans: bool) -> None:
+    """Says why each stretch of junk can't be read: there is one error for each, in their order."""
+    with Bundle([source]) as bundle:
+        errors = [error for error in bundle.errors if error.kind != "Overriding"]
+    for stretch, error in zip(junk, errors):
+        annotation = ast.Annotation(CODES.get(error.kind, "E0001"), message=str(error).split(": ", 1)[-1])
+        if with_spans:
+            place = _index(source, error)
+            annotation.add_span(place, place)
+        stretch.add_annotation(annotation)
+
+
+def _index(source: str, error: SourceError) -> int:
+    """Where an error is in its source."""
+    start = 0
+    for _ in range((error.line or 1) - 1):
+        start = source.index("\n", start) + 1
+    return start + (error.column or 1) - 1

@@ -1,0 +1,73 @@
+"""Walks over a tree."""
+
+from __future__ import annotations
+
+from typing import Any
+
+from .ast import BaseNode, fields_of
+
+
+class Visitor:
+    """A walk that reads a tree. Make a class of it, with a method `visit_Message` or the like for each kind of node that
+    is of interest. Such a method goes on below its node by `self.generic_visit(node)`, or else not.
+
+    >>> from kozhvadi.syntax import parse
+    >>> class Variables(Visitor):
+    ...     def __init__(self):
+    ...         self.names = []
+    ...     def visit_VariableReference(self, node):
+    ...         self.names.append(node.id.name)
+    >>> variables = Variables()
+    >>> variables.visit(parse("hello = Hello, { $first } { $last }!\\n"))
+    >>> variables.names
+    ['first', 'last']
+    """
+
+    def visit(self, node: Any) -> Any:
+        """Visits a node, or each node of a list."""
+        if isinstance(node, list):
+            for each in node:
+                self.visit(each)
+        elif isinstance(node, BaseNode):
+            method = getattr(self, f"visit_{type(node).__name__}", self.generic_visit)
+            method(node)
+
+    def generic_visit(self, node: BaseNode) -> Any:
+        """Visits all that is below a node."""
+        for value in fields_of(node).values():
+            self.visit(value)
+
+
+class Transformer(Visitor):
+    """A walk that changes a tree, in place. A method returns the node, another one that takes its place, or `None` to
+    remove it.
+
+    >>> from kozhvadi.syntax import parse, serialize
+    >>> class Upper(Transformer):
+    ...     def visit_TextElement(self, node):
+    ...         node.value = node.value.upper()
+    ...         return node
+    >>> serialize(Upper().visit(parse("hello = Hello, { $name }!\\n")))
+    'hello = HELLO, { $name }!\\n'
+    """
+
+    def visit(self, node: Any) -> Any:
+        """What takes the place of a node."""
+        if not isinstance(node, BaseNode):
+            return node
+        method = getattr(self, f"visit_{type(node).__name__}", self.generic_visit)
+        return method(node)
+
+    def generic_visit(self, node: BaseNode) -> Any:
+        """Changes all that is below a node, which stays."""
+        for name, value in list(fields_of(node).items()):
+            if isinstance(value, list):
+                visited = [self.visit(each) for each in value]
+                value[:] = [each for each in visited if each is not None]
+            elif isinstance(value, BaseNode):
+                changed = self.visit(value)
+                if changed is None:
+                    delattr(node, name)
+                else:
+                    setattr(node, name, changed)
+        return node

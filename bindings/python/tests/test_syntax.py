@@ -1,0 +1,225 @@
+"""The tree of a source: what it has, where its nodes are, and what it is written as."""
+
+import copy
+import ctypes
+import doctest
+import json
+import pickle
+import unittest
+
+from kozhvadi import _library as c
+from kozhvadi import occurrences, syntax
+from kozhvadi.syntax import FluentParser, FluentSerializer, Transformer, Visitor, ast, parse, serialize, visitor
+
+# Sources of each kind of node, damaged ones too.
+SOURCES = [
+    "",
+    "\n  \n",
+    "a = b",
+    "a = b\r\n    c\r\n\r\n    d { $x } e\r\n   f\r\n",
+    "# c\n# d\n\n## g\n### r\n#\n\n# own\na = b\n# own\n-t = { 1.5 }\n    .gender = none\n",
+    "a =\n    .b = c\n      .d =\n        e\n         f\n\n      g\n  \n",
+    "a =\n     { $x }\n  b\n",
+    "a =\n       x\n  b { $y }   \nb = { $x }   \n  .c = { $y }\n",
+    'a = { "x\\"\\u00e9" } { -t(case: "of", n: 1) } { -t.gender } { F( $a , 2 , m.b , {{ "n" }} , k : 3 , ) } { m.c }\n',
+    "a = { $x ->\n    [one] One\n        more\n   *[ other ]\n        Other { $y ->\n           *[1.0] in\n        }\n} after\n",
+    "a = { \n $x\n -> \n\n *[o] é𝄞\n\n }\n",
+    "a = {FOO()}{\"\"}text{$b}\n",
+    "junk here\n\n  }\n# foo\na = 1\nb = }\n.x\n#e\n",
+    "a = 1\n .b\nc = 2\n",
+    "a = 1\n  }\n",
+    "a={1->\n*\n}\nb={F(1 2)}\nc={d .e}\nd=\t\ne={$x}\u2003\n .f=g\n  \u2003\nh=\n  i\n    \n  j\nk=\n  l\n    {1}\n  ",
+    "a = b\n \u2003\n\n\t\nc",
+    "a={{1->\n*[b]c\n}}\nb={F({1->\n*[b]c\n  d\n})}\nc=.b\n c\n# \t\n# x \nd=b\n\n c\ne={1->\n*[b]\n  c\n\n  .d\n}\n",
+    "a={{{1->\n*[b]c\n}}}\nb={1->\n*[b]{F({1->\n*[b]{{1->\n*[b]c\n d}}\n})}\n}\nc=x\n {{1->\n*[b]c\n}}\n  .y={{1->\n*[b].c\n}}\n",
+]
+
+
+def write(source, with_junk=False):
+    """What the library writes of a source."""
+    call, text, made = c.library.fluent_write, source.encode(), c.FluentText()
+    call.argtypes = [ctypes.c_char_p, ctypes.c_size_t, ctypes.c_bool, ctypes.POINTER(c.FluentText)]
+    assert call(text, len(text), with_junk, made) == c.READ
+    written = c.string_of(made)
+    c.library.fluent_free_text(made)
+    return written
+
+
+def nodes(root):
+    """The nodes of a tree, but for spans."""
+    found = []
+
+    class All(Visitor):
+        def generic_visit(self, node):
+            if not isinstance(node, ast.Span):
+                found.append(node)
+            super().generic_visit(node)
+
+    All().visit(root)
+    return found
+
+
+def spelled(node, source):
+    """What a node has to be in its source, as far as that is plain."""
+    exact = {
+        ast.Identifier: lambda: node.name,
+        ast.NumberLiteral: lambda: node.value,
+        ast.StringLiteral: lambda: f'"{node.value}"',
+        ast.VariableReference: lambda: f"${node.id.name}",
+        ast.Junk: lambda: node.content,
+        ast.Resource: lambda: source,
+    }
+    return exact.get(type(node), lambda: None)()
+
+
+def stripped(text):
+    """The lines of a text without the indent, nor white space at its end, which is taken off a pattern."""
+    return [line.lstrip(" ") for line in text.rstrip().split("\n")]
+
+
+def names(tree):
+    """Where the names of a tree are, but for those of variants and of named arguments."""
+    found = nodes(tree)
+    others = {id(node.key) for node in found if isinstance(node, ast.Variant)}
+    others |= {id(node.name) for node in found if isinstance(node, ast.NamedArgument)}
+    return [node.span for node in found if isinstance(node, ast.Identifier) and id(node) not in others]
+
+
+# How nodes begin and end.
+EDGES = {
+    ast.Placeable: ("{", "}"),
+    ast.CallArguments: ("(", ")"),
+    ast.Attribute: (".", ""),
+    ast.Variant: (("[", "*["), ""),
+    ast.Term: (("-", "#"), ""),
+    ast.TermReference: ("-", ""),
+    ast.Comment: ("#", ""),
+    ast.GroupComment: ("##", ""),
+    ast.ResourceComment: ("###", ""),
+}
+
+
+class Syntax(unittest.TestCase):
+    def test_spans(self):
+        """Each node is where its source has it, inside the node above it."""
+        for source in SOURCES:
+            for node in nodes(parse(source)):
+                here = source[node.span.start : node.span.end]
+                exact = spelled(node, source)
+                with self.subTest(source=source, node=type(node).__name__, here=here):
+                    if exact is not None:
+                        self.assertEqual(here, exact)
+                    begin, end = EDGES.get(type(node), ("", ""))
+                    self.assertTrue(here.startswith(begin) and here.endswith(end))
+                    if isinstance(node, ast.TextElement):
+                        self.assertEqual(stripped(here.replace("\r\n", "\n")), stripped(node.value))
+                    for below in vars(node).values():
+                        for child in below if isinstance(below, list) else [below]:
+                            if isinstance(child, ast.SyntaxNode) and not isinstance(child, ast.Annotation):
+                                self.assertTrue(node.span.start <= child.span.start <= child.span.end <= node.span.end)
+
+    def test_names_are_where_the_library_finds_them(self):
+        """The proved call for occurrences has the same names at the same places."""
+        for source in SOURCES:
+            text = source.encode()
+            found = [
+                (len(text[: each.start].decode()), len(text[: each.end].decode()))
+                for each in occurrences(source)
+                # The library lists the arguments that a term is passed, too.
+                if each.symbol.kind != "variable" or text[each.start - 1 : each.start] == b"$"
+            ]
+            with self.subTest(source=source):
+                self.assertEqual(sorted((span.start, span.end) for span in names(parse(source))), found)
+
+    def test_texts(self):
+        message = parse("a = b\r\n    c\r\n\r\n     d { $x }\r\n   \r\n").body[0]
+        self.assertEqual([element.value for element in message.value.elements[:1]], ["b\nc\n\n d "])
+        self.assertEqual(message.to_json()["value"]["elements"][1]["expression"]["id"]["name"], "x")
+
+    def test_comments(self):
+        first, group, whole, empty, message, term = parse(SOURCES[4]).body
+        self.assertEqual([node.content for node in (first, group, whole, empty)], ["c\nd", "g", "r", ""])
+        self.assertEqual((message.comment.content, term.comment.content), ("own", "own"))
+        self.assertEqual(message.span.start, message.comment.span.start)
+        self.assertIs(type(whole), ast.ResourceComment)
+
+    def test_writes_what_the_library_writes(self):
+        for source in SOURCES:
+            with self.subTest(source=source):
+                self.assertEqual(serialize(parse(source)), write(source))
+                self.assertEqual(serialize(parse(source), with_junk=True), write(source, with_junk=True))
+
+    def test_junk(self):
+        source = "a = 1\nb\n\nc = { foo() }\n-t =\n"
+        message, *junk = parse(source).body
+        self.assertEqual([stretch.content for stretch in junk], ["b\n\n", "c = { foo() }\n", "-t =\n"])
+        told = [(note.code, note.span.start, note.message) for stretch in junk for note in stretch.annotations]
+        self.assertEqual(told[0], ("E0003", 7, "expected `=` after `b`, found the end of the line"))
+        self.assertEqual([code for code, _, _ in told], ["E0003", "E0008", "E0006"])
+        self.assertEqual(message.id.name, "a")
+
+    def test_one_entry(self):
+        parser = FluentParser()
+        entry = parser.parse_entry("\n# c\n\n# own\nkey = value\nother = 1\n")
+        self.assertEqual((entry.id.name, entry.comment, entry.span.start), ("key", None, 12))
+        self.assertEqual(parser.parse_entry("# c\n-t = 1\n").span.start, 4)
+        self.assertIsInstance(parser.parse_entry("key\n"), ast.Junk)
+        self.assertIsInstance(parser.parse_entry("# c\n"), ast.Junk)
+        self.assertEqual(FluentSerializer().serialize_entry(entry), "key = value\n")
+
+    def test_without_spans(self):
+        for node in nodes(FluentParser(with_spans=False).parse(SOURCES[8])):
+            self.assertIsNone(node.span)
+
+    def test_nodes_compare_and_copy(self):
+        for source in SOURCES:
+            tree = parse(source)
+            with self.subTest(source=source):
+                self.assertTrue(tree.equals(parse(source)))
+                self.assertTrue(tree.clone().equals(tree, ignored_fields=[]))
+                self.assertTrue(ast.from_json(json.loads(str(tree))).equals(tree, ignored_fields=None))
+                self.assertTrue(copy.deepcopy(parse(source)).equals(tree))
+                self.assertTrue(pickle.loads(pickle.dumps(parse(source))).equals(tree))
+        self.assertFalse(parse("a = 1").equals(parse("a = 2")))
+        self.assertFalse(parse("a = 1").equals(parse("a = 1\nb = 2")))
+        spaced = parse("a = { 1 }"), parse("a = {1}")
+        self.assertTrue(spaced[0].equals(spaced[1]))
+        self.assertFalse(spaced[0].equals(spaced[1], ignored_fields=[]))
+
+    def test_made_by_hand(self):
+        pattern = ast.Pattern([ast.TextElement("Hello, "), ast.Placeable(ast.VariableReference(ast.Identifier("name")))])
+        message = ast.Message(ast.Identifier("hello"), pattern, comment=ast.Comment("Shown first"))
+        self.assertEqual(serialize(ast.Resource([message])), "# Shown first\nhello = Hello, { $name }\n")
+        with self.assertRaises(TypeError):
+            serialize(message)
+
+    def test_transformer_removes(self):
+        class WithoutComments(Transformer):
+            def visit_Comment(self, node):
+                return None
+
+            def visit_Message(self, node):
+                node.comment = None
+                return self.generic_visit(node)
+
+        changed = WithoutComments().visit(parse("# c\n\n# own\na = 1\n"))
+        self.assertEqual(serialize(changed), "a = 1\n")
+
+    def test_literals(self):
+        literal = parse('a = { "\\"\\\\\\u00e9\\U01F602\\uD800" }').body[0].value.elements[0].expression
+        self.assertEqual(literal.parse(), {"value": '"\\é😂\ufffd'})
+        self.assertEqual(ast.NumberLiteral("-1.50").parse(), {"value": -1.5, "precision": 2})
+
+    def test_refused(self):
+        with self.assertRaises(ValueError):
+            parse("a = \ud800")
+        with self.assertRaises(MemoryError):
+            parse("a = " + "{" * 50_000 + "1" + "}" * 50_000)
+
+    def test_sessions(self):
+        for module in (syntax, visitor):
+            self.assertEqual(doctest.testmod(module).failed, 0)
+
+
+if __name__ == "__main__":
+    unittest.main()
