@@ -1,4 +1,4 @@
-"""Findings as the diagnostics of documents, and the fixes that go with them."""
+"""Findings as the diagnostics of documents."""
 
 from __future__ import annotations
 
@@ -6,16 +6,17 @@ import re
 from collections.abc import Iterable
 from dataclasses import dataclass, replace
 from functools import cached_property
-from typing import Any
+from pathlib import Path
+from typing import Any, NamedTuple
 
-from .._fixes import extent, fixes
+from .._fixes import extent
 from .._linting import Finding, lint
 from .._positions import utf16_length
 from ._documents import Document, Loaded
 from ._session import Params
 from ._workspace import Workspace
 
-_ERROR, _WARNING = 1, 2
+_ERROR, _WARNING, _HINT = 1, 2, 4
 _SEVERITIES = {"error": _ERROR, "warning": _WARNING, "note": 3}
 _UNNECESSARY = 1
 
@@ -23,7 +24,10 @@ _UNNECESSARY = 1
 _OF_CATALOG = {"unknown-message", "unknown-term", "unused-term", "unused-variable", "missing-message"}
 _OF_REFERENCE = {"unknown-variable", "unknown-function", "obsolete-message"}
 
-# This many files that can't be read are named.
+# This note is reported without being asked for, as a hint: what is added from the reference is untranslated.
+UNTRANSLATED = "untranslated"
+
+# This many files that can't be read, or that are missing, are named.
 _NAMED = 5
 
 _DUPLICATE = re.compile(r"the entry at (.+):([0-9]+):[0-9]+ has the same id")
@@ -31,22 +35,31 @@ _DUPLICATE = re.compile(r"the entry at (.+):([0-9]+):[0-9]+ has the same id")
 Json = dict[str, Any]
 
 
+class MissingFile(NamedTuple):
+    """A file of the reference that a language lacks: where it belongs, and the ids that have no translation."""
+
+    path: Path
+    original: Document
+    ids: list[str]
+
+
 @dataclass
 class _Checked:
     """What was found in documents that are loaded together.
 
-    The findings have the URIs of their documents, `unread` says in sentences which files can't be read, and `names` has
-    the documents by the names that they have in the texts of findings.
+    The findings have the URIs of their documents, `unread` says in sentences which files can't be read, `names` has
+    the documents by the names that they have in the texts of findings, and `files` are those that the language lacks.
     """
 
     found: list[Finding]
     unread: list[str]
     names: dict[str, Document]
+    files: list[MissingFile]
 
     @cached_property
-    def missing(self) -> list[Finding]:
-        """Messages that the reference has, and the catalog lacks."""
-        return [each for each in self.found if each.code == "missing-message"]
+    def missing(self) -> dict[str, list[str]]:
+        """The ids that the reference has, and the catalog lacks, by the URIs of the reference's files."""
+        return _missing(self.found)
 
 
 class Checks:
@@ -57,6 +70,19 @@ class Checks:
         self.has_related = False
         self._found: dict[str, list[Finding]] = {}
         self._missing: dict[str, list[str]] = {}
+        self._files: dict[str, list[MissingFile]] = {}
+
+    def found(self, uri: str) -> list[Finding]:
+        """What was found in a document."""
+        return self._found.get(uri, [])
+
+    def lacks(self, uri: str) -> list[str]:
+        """The ids of the messages that a document lacks."""
+        return self._missing.get(uri, [])
+
+    def files(self, uri: str) -> list[MissingFile]:
+        """The files that the language of a document lacks."""
+        return self._files.get(uri, [])
 
     def check(self, document: Document) -> list[Json]:
         """Looks for mistakes in a document and those that are loaded with it: what is to be published, a list each."""
@@ -90,11 +116,26 @@ class Checks:
             reference=[(shown[each.uri], marks[each.uri] + each.text) for each in reference.documents],
             locale=self._workspace.locale(document),
             functions=settings.functions,
-            notes=settings.notes,
+            notes=settings.notes or bool(reference.documents),
         )
         unsure = (_OF_CATALOG if catalog.unread else set()) | (_OF_REFERENCE if reference.unread else set())
-        found = [_placed(each, names[each.file], marks) for each in report.findings if each.code not in unsure]
-        return _Checked(found, self._unread(catalog, reference), names)
+        found = [
+            _placed(each, names[each.file], marks)
+            for each in report.findings
+            if each.code not in unsure and (settings.notes or each.severity != "note" or each.code == UNTRANSLATED)
+        ]
+        return _Checked(found, self._unread(catalog, reference), names, self._absent(document, found, reference))
+
+    def _absent(self, document: Document, found: list[Finding], reference: Loaded) -> list[MissingFile]:
+        """The files of the reference with messages that the catalog lacks, and that its language hasn't."""
+        missing = _missing(found)
+        lacking = [each for each in reference.documents if each.uri in missing]
+        placed = [(each, self._workspace.translation_path(document, each)) for each in lacking]
+        return [
+            MissingFile(path, each, missing[each.uri])
+            for each, path in placed
+            if path and not self._workspace.is_there(path)
+        ]
 
     def _names(self, documents: Iterable[Document]) -> dict[str, Document]:
         """The documents by their paths from the top of the workspace. If two have the same, one has its URI."""
@@ -117,18 +158,35 @@ class Checks:
         """Drops what was found in a document that is closed."""
         self._found.pop(uri, None)
         self._missing.pop(uri, None)
+        self._files.pop(uri, None)
         return {"uri": uri, "diagnostics": []}
 
     def _told(self, document: Document, checked: _Checked) -> Json:
         self._found[document.uri] = own = [each for each in checked.found if each.file == document.uri]
         told = [_at_first_line(document, _WARNING, "unread-file", words) for words in checked.unread]
-        told += [{**_diagnostic(document, each), **self._related(each, checked)} for each in own]
+        absent = self._workspace.missing_reference(document)
+        if absent:
+            told.append(_at_first_line(document, _WARNING, "missing-reference", f"{absent}: nothing is compared"))
+        self._files[document.uri] = checked.files
+        if checked.files:
+            told.append(self.missing_files(document))
+        told += [{**diagnostic(document, each), **self._related(each, checked)} for each in own]
         counterpart = self._workspace.counterpart(document)
-        lacks = [each.entry for each in checked.missing if counterpart and each.file == counterpart.uri and each.entry]
-        self._missing[document.uri] = lacks
+        self._missing[document.uri] = lacks = checked.missing.get(counterpart.uri, []) if counterpart else []
         if lacks:
-            told.append(_untranslated(document, lacks))
+            told.append(missing_messages(document, lacks))
         return self._published(document, told)
+
+    def missing_files(self, document: Document) -> Json:
+        """Says at the first line which files the language of a document lacks."""
+        files = self.files(document.uri)
+        some = ", ".join(self._workspace.shown(each.path) for each in files[:_NAMED])
+        names = f"{some}, .." if len(files) > _NAMED else some
+        count = sum(len(each.ids) for each in files)
+        have = "1 message of the reference has" if count == 1 else f"{count} messages of the reference have"
+        there = "is no" if len(files) == 1 else "are no"
+        words = f"there {there} {names}: {have} no translation"
+        return _at_first_line(document, _WARNING, "missing-file", words)
 
     def _related(self, finding: Finding, checked: _Checked) -> Json:
         """The place of the other entry, if a finding names it, for clients that show it."""
@@ -145,7 +203,7 @@ class Checks:
         return {}
 
     def _refused(self, document: Document) -> Json:
-        self._found[document.uri], self._missing[document.uri] = [], []
+        self._found[document.uri], self._missing[document.uri], self._files[document.uri] = [], [], []
         words = "the source nests too deep, or memory ran out"
         return self._published(document, [_at_first_line(document, _ERROR, "memory", words)])
 
@@ -154,67 +212,21 @@ class Checks:
         version = {} if document.version is None else {"version": document.version}
         return {"uri": document.uri, "diagnostics": told, **version}
 
-    def actions(self, params: Params) -> list[Json]:
-        """The fixes for what is found in a range of a document."""
-        uri = params["textDocument"]["uri"].text
-        document = self._workspace.open.get(uri)
-        if document is None:
-            return []
-        asked = params["range"]
-        start, end = (document.offset(position_of(asked[name])) for name in ("start", "end"))
-        catalog = self._workspace.catalog(document).documents
-        reference = self._workspace.reference(document).documents
-        entries, compared = self._workspace.samples(catalog), self._workspace.samples(reference)
-        found: list[Json] = []
-        for finding in self._found.get(uri, ()):
-            first, last = extent(document.source, finding.offset)
-            if first <= end and start <= last:
-                functions = self._workspace.settings.functions
-                for fix in fixes(finding, document.places, entries, compared, functions):
-                    edit = {"range": document.range(fix.start, fix.end), "newText": fix.text}
-                    found.append(_action(document, fix.title, edit, _diagnostic(document, finding)))
-                    found[-1]["isPreferred"] = len(found) == 1
-        lacks = self._missing.get(uri, [])
-        if lacks and end >= _last_line(document):
-            found += self._additions(document, lacks, reference)
-        return found
-
-    def _additions(self, document: Document, lacks: list[str], reference: list[Document]) -> list[Json]:
-        """What adds the messages that are missing, with the text of the reference."""
-        texts = {
-            entry.id: each.source[entry.start : entry.end].decode()
-            for each in reversed(reference)
-            for entry in reversed(each.places.entries)
-            if not entry.is_term
-        }
-        known = [id for id in lacks if id in texts]
-        every = "the message" if len(known) == 1 else f"all {len(known)} messages"
-        groups = [(f"Add {every} of the reference", known)] if known else []
-        groups += [(f"Add `{id}` of the reference", [id]) for id in known[:20] if len(known) > 1]
-        told = _untranslated(document, lacks)
-        end = len(document.source)
-        lead = "" if not document.source or document.source.endswith(b"\n") else "\n"
-        edits = [
-            (title, {"range": document.range(end, end), "newText": lead + "".join(f"{texts[id]}\n" for id in ids)})
-            for title, ids in groups
-        ]
-        return [_action(document, title, edit, told) for title, edit in edits]
+def _missing(found: Iterable[Finding]) -> dict[str, list[str]]:
+    """The ids of messages that are missing, by the URIs of the reference's files that have them."""
+    missing: dict[str, list[str]] = {}
+    for each in found:
+        if each.code == "missing-message" and each.entry:
+            missing.setdefault(each.file, []).append(each.entry)
+    return missing
 
 
-def _action(document: Document, title: str, edit: Json, mended: Json) -> Json:
-    return {
-        "title": title,
-        "kind": "quickfix",
-        "diagnostics": [mended],
-        "edit": {"changes": {document.uri: [edit]}},
-    }
-
-
-def _diagnostic(document: Document, finding: Finding) -> Json:
+def diagnostic(document: Document, finding: Finding) -> Json:
+    """A finding as the protocol has it."""
     text = f"{finding.text} ({finding.hint})" if finding.hint else finding.text
     told: Json = {
         "range": document.range(*extent(document.source, finding.offset)),
-        "severity": _SEVERITIES.get(finding.severity, _ERROR),
+        "severity": _HINT if finding.code == UNTRANSLATED else _SEVERITIES.get(finding.severity, _ERROR),
         "code": finding.code,
         "source": "kozhvadi",
         "message": f"{finding.entry}: {text}" if finding.entry else text,
@@ -224,17 +236,18 @@ def _diagnostic(document: Document, finding: Finding) -> Json:
     return told
 
 
-def _last_line(document: Document) -> int:
+def last_line(document: Document) -> int:
     """Where the last line with text begins: what is missing is reported there."""
     text = document.source.rstrip()
     return max(text.rfind(b"\n"), text.rfind(b"\r")) + 1
 
 
-def _untranslated(document: Document, lacks: list[str]) -> Json:
+def missing_messages(document: Document, lacks: list[str]) -> Json:
+    """Says at the last line which messages a document lacks."""
     some = ", ".join(f"`{id}`" for id in lacks[:5]) + (", .." if len(lacks) > 5 else "")
     count = "1 message of the reference has" if len(lacks) == 1 else f"{len(lacks)} messages of the reference have"
     return {
-        "range": document.range(_last_line(document), len(document.source.rstrip())),
+        "range": document.range(last_line(document), len(document.source.rstrip())),
         "severity": _WARNING,
         "code": "missing-message",
         "source": "kozhvadi",

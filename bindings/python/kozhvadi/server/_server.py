@@ -11,12 +11,13 @@ from typing import Any
 
 from .. import __version__
 from .._linting import TidyError, tidy
+from ._actions import CREATE_FILES, KINDS, Actions
 from ._checks import Checks, Json
 from ._completion import Completion
-from ._documents import Document, shown_path
+from ._documents import Document
 from ._hovering import Hovering
 from ._naming import Naming
-from ._session import PARSE_ERROR, REQUEST_FAILED, Params, Refused, Session
+from ._session import INVALID_PARAMS, PARSE_ERROR, REQUEST_FAILED, Params, Refused, Session
 from ._settings import Settings, own, own_among_others, settings_in
 from ._wire import Damaged, Input, Output, Reader, writer
 from ._workspace import Workspace
@@ -42,7 +43,8 @@ _CAPABILITIES = {
     "workspaceSymbolProvider": True,
     "documentFormattingProvider": True,
     "renameProvider": {"prepareProvider": True},
-    "codeActionProvider": {"codeActionKinds": ["quickfix"]},
+    "codeActionProvider": {"codeActionKinds": KINDS},
+    "executeCommandProvider": {"commands": [CREATE_FILES]},
     "workspace": {"workspaceFolders": {"supported": True, "changeNotifications": True}},
 }
 
@@ -54,12 +56,14 @@ class Server:
         self._send = send
         self.workspace = Workspace()
         self._checks = Checks(self.workspace)
+        self._actions = Actions(self.workspace, self._checks)
         self._naming, self._hovering = Naming(self.workspace), Hovering(self.workspace)
         self._completion = Completion(self.workspace)
         self._unchecked: dict[str, None] = {}
         self._shown: set[str] = set()
         self._initial: dict[str, Any] = {}
-        self._can_watch = False
+        self._can_watch = self._can_apply = False
+        self._asked = 0
         answers: dict[str, Callable[[Params], object]] = {
             "initialize": self._initialize,
             "shutdown": lambda _: None,
@@ -72,7 +76,8 @@ class Server:
             "textDocument/rename": self._naming.rename,
             "textDocument/hover": self._hovering.hover,
             "textDocument/completion": self._completion.complete,
-            "textDocument/codeAction": self._checks_asked(self._checks.actions),
+            "textDocument/codeAction": self._checks_asked(self._actions.actions),
+            "workspace/executeCommand": self._checks_asked(self._execute),
             "textDocument/formatting": self._format,
         }
         notices: dict[str, Callable[[Params], object]] = {
@@ -93,8 +98,9 @@ class Server:
             uri = next(iter(self._unchecked))
             document = self.workspace.open.get(uri)
             published = self._checks.check(document) if document else []
-            if document:
-                self._show_missing_reference(document)
+            absent = self.workspace.missing_reference(document) if document else None
+            if absent:
+                self._show(absent)
             self._unchecked.pop(uri, None)
             for each in published:
                 self._unchecked.pop(each["uri"], None)
@@ -125,6 +131,11 @@ class Server:
         self._naming.has_nested_symbols = can.at("documentSymbol", "hierarchicalDocumentSymbolSupport") is True
         self._naming.has_versions = params.at("capabilities", "workspace", "workspaceEdit", "documentChanges") is True
         self._completion.has_snippets = can.at("completion", "completionItem", "snippetSupport") is True
+        edits = params["capabilities"].get("workspace").get("workspaceEdit")
+        created = edits.at("resourceOperations")
+        self._actions.has_versions = self._naming.has_versions
+        self._actions.can_create = isinstance(created, list) and "create" in created
+        self._can_apply = params.at("capabilities", "workspace", "applyEdit") is True
         watching = params.at("capabilities", "workspace", "didChangeWatchedFiles", "dynamicRegistration")
         self._can_watch = watching is True
         formats = can.at("hover", "contentFormat")
@@ -159,11 +170,6 @@ class Server:
             self._shown.add(words)
             shown = {"type": 2, "message": f"kozhvadi: {words}"}
             self._send({"jsonrpc": "2.0", "method": "window/showMessage", "params": shown})
-
-    def _show_missing_reference(self, document: Document) -> None:
-        folder = self.workspace.missing_reference(document)
-        if folder:
-            self._show(f"the reference {self.workspace.settings.reference} isn't in {shown_path(folder)}")
 
     def _configure(self, params: Params) -> None:
         """Takes settings in place of those of the initialization options. If there are none, nothing changes: some
@@ -209,6 +215,24 @@ class Server:
 
     def _check_all(self) -> None:
         self._unchecked.update(dict.fromkeys(self.workspace.open))
+
+    def _execute(self, params: Params) -> None:
+        """Creates the files that the language of a document lacks: the client gets the edit as a request."""
+        command = params["command"].text
+        if command != CREATE_FILES:
+            raise Refused(INVALID_PARAMS, f"there is no command {command!r}")
+        if not self._can_apply:
+            raise Refused(REQUEST_FAILED, "the client takes no edits that it didn't ask for")
+        given = params["arguments"].items
+        document = self.workspace.open.get(given[0].text) if given else None
+        if document is None:
+            raise Refused(REQUEST_FAILED, "the argument of the command isn't the URI of an open document")
+        files = self._checks.files(document.uri)
+        if files:
+            self._asked += 1
+            applied = {"label": "Create missing files", "edit": self._actions.creating(document, files)}
+            id = f"apply {self._asked}"
+            self._send({"jsonrpc": "2.0", "id": id, "method": "workspace/applyEdit", "params": applied})
 
     def _format(self, params: Params) -> list[Json]:
         """The edit that tidies a document, of the lines that change."""
