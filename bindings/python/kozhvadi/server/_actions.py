@@ -8,9 +8,10 @@ from pathlib import Path
 from .._fixes import Fix, extent, fixes
 from .._linting import Finding
 from ._additions import Addition, additions, without
-from ._checks import Checks, Json, MissingFile, diagnostic, last_line, missing_messages, position_of
+from ._checks import Checks, MissingFile, diagnostic, last_line, missing_messages, position_of
 from ._documents import Document
 from ._session import Params
+from ._wire import Json
 from ._workspace import Workspace
 
 CREATE_FILES = "kozhvadi.createMissingFiles"

@@ -21,8 +21,8 @@ class Addition(NamedTuple):
 
 
 def additions(document: Document, original: Document, ids: Iterable[str]) -> list[Addition]:
-    """What adds messages of a file of the reference to its translation, in the order of the reference: after the message
-    that is before it there, or else before the first one that is after it."""
+    """What adds messages of a file of the reference to its translation, in the order of the reference: after the
+    message that is before it there, or else before the first one that is after it."""
     wanted, end = set(ids), _line_end(document.source)
     have = {entry.key: entry for entry in reversed(document.places.entries)}
     after: dict[int, str] = {}

@@ -2,18 +2,23 @@
 
 from __future__ import annotations
 
+import hashlib
+import json
 import re
-from collections.abc import Iterable
+from collections.abc import Callable, Iterable
 from dataclasses import dataclass, replace
 from functools import cached_property
 from pathlib import Path
-from typing import Any, NamedTuple
+from typing import NamedTuple
 
 from .._fixes import extent
 from .._linting import Finding, lint
-from .._positions import utf16_length
+from .._scan import Entry
+from .._stopping import go_on
+from ._codes import link_of
 from ._documents import Document, Loaded
 from ._session import Params
+from ._wire import Json
 from ._workspace import Workspace
 
 _ERROR, _WARNING, _HINT = 1, 2, 4
@@ -24,6 +29,17 @@ _UNNECESSARY = 1
 _OF_CATALOG = {"unknown-message", "unknown-term", "unused-term", "unused-variable", "missing-message"}
 _OF_REFERENCE = {"unknown-variable", "unknown-function", "obsolete-message"}
 
+# Findings of these codes come from a comparison with a message of the reference.
+_COMPARED = {
+    "missing-value",
+    "missing-attribute",
+    "obsolete-value",
+    "obsolete-attribute",
+    "unknown-variable",
+    "unused-variable",
+    "untranslated",
+}
+
 # This note is reported without being asked for, as a hint: what is added from the reference is untranslated.
 UNTRANSLATED = "untranslated"
 
@@ -31,8 +47,6 @@ UNTRANSLATED = "untranslated"
 _NAMED = 5
 
 _DUPLICATE = re.compile(r"the entry at (.+):([0-9]+):[0-9]+ has the same id")
-
-Json = dict[str, Any]
 
 
 class MissingFile(NamedTuple):
@@ -48,13 +62,24 @@ class _Checked:
     """What was found in documents that are loaded together.
 
     The findings have the URIs of their documents, `unread` says in sentences which files can't be read, `names` has
-    the documents by the names that they have in the texts of findings, and `files` are those that the language lacks.
+    the documents by the names that they have in the texts of findings, `files` are those that the language lacks, and
+    `reference` has the documents that they were compared with.
     """
 
     found: list[Finding]
     unread: list[str]
     names: dict[str, Document]
     files: list[MissingFile]
+    reference: list[Document]
+
+    @cached_property
+    def originals(self) -> dict[str, tuple[Document, Entry]]:
+        """The entries of the reference by their keys, with their documents."""
+        found: dict[str, tuple[Document, Entry]] = {}
+        for document in self.reference:
+            for entry in document.places.entries:
+                found.setdefault(entry.key, (document, entry))
+        return found
 
     @cached_property
     def missing(self) -> dict[str, list[str]]:
@@ -62,12 +87,21 @@ class _Checked:
         return _missing(self.found)
 
 
+class _Kept(NamedTuple):
+    """What was found in documents that are loaded together, and what it was found by."""
+
+    key: object
+    read: list[Document]
+    told: list[Json]
+
+
 class Checks:
     """What was found in each open document, by its URI."""
 
     def __init__(self, workspace: Workspace) -> None:
         self._workspace = workspace
-        self.has_related = False
+        self.has_related = self.has_links = False
+        self._kept: dict[str, _Kept] = {}
         self._found: dict[str, list[Finding]] = {}
         self._missing: dict[str, list[str]] = {}
         self._files: dict[str, list[MissingFile]] = {}
@@ -85,9 +119,20 @@ class Checks:
         return self._files.get(uri, [])
 
     def check(self, document: Document) -> list[Json]:
-        """Looks for mistakes in a document and those that are loaded with it: what is to be published, a list each."""
+        """Looks for mistakes in a document and those that are loaded with it: what is to be published, a list each.
+
+        Nothing is said of another version of a file: what belongs to it isn't known.
+        """
+        if document.is_other_version:
+            self.forget(document.uri)
+            return [self._published(document, [])]
         catalog, reference = self._workspace.catalog(document), self._workspace.reference(document)
-        opened = [each for each in catalog.documents if self._is_told_with(each, document)]
+        return self._check(document, catalog, reference, lambda each: each.uri in self._workspace.open)
+
+    def _check(
+        self, document: Document, catalog: Loaded, reference: Loaded, is_wanted: Callable[[Document], bool]
+    ) -> list[Json]:
+        opened = [each for each in catalog.documents if is_wanted(each) and self._is_told_with(each, document)]
         try:
             checked = self._checked(document, catalog, reference)
         except MemoryError:
@@ -100,9 +145,7 @@ class Checks:
         return [self._told(each, checked) if each.uri in read else self._refused(each) for each in opened]
 
     def _is_told_with(self, each: Document, document: Document) -> bool:
-        """Whether a document of a catalog is open, and belongs there by its path, not only by a symbolic link."""
-        if each.uri not in self._workspace.open:
-            return False
+        """Whether a document of a catalog belongs there by its path, not only by a symbolic link."""
         return each is document or self._workspace.group(each) == self._workspace.group(document)
 
     def _checked(self, document: Document, catalog: Loaded, reference: Loaded) -> _Checked:
@@ -124,7 +167,8 @@ class Checks:
             for each in report.findings
             if each.code not in unsure and (settings.notes or each.severity != "note" or each.code == UNTRANSLATED)
         ]
-        return _Checked(found, self._unread(catalog, reference), names, self._absent(document, found, reference))
+        absent = self._absent(document, found, reference)
+        return _Checked(found, self._unread(catalog, reference), names, absent, reference.documents)
 
     def _absent(self, document: Document, found: list[Finding], reference: Loaded) -> list[MissingFile]:
         """The files of the reference with messages that the catalog lacks, and that its language hasn't."""
@@ -161,6 +205,48 @@ class Checks:
         self._files.pop(uri, None)
         return {"uri": uri, "diagnostics": []}
 
+    def pulled(self, params: Params) -> Json:
+        """What is found in a document, as its client asks for it."""
+        document = self._workspace.document(params["textDocument"]["uri"].text)
+        told = self._all(document) if document else []
+        found = [each["diagnostics"] for each in told if document and each["uri"] == document.uri]
+        return {"kind": "full", "items": found[0] if found else []}
+
+    def pulled_of_workspace(self, params: Params) -> Json:
+        """What is found in each file of the workspace. A list that is as the client has it isn't sent again."""
+        before = {each["uri"].text: each["value"].value for each in params["previousResultIds"].items}
+        documents = self._workspace.all().documents
+        told: dict[str, Json] = {}
+        for document in documents:
+            go_on()
+            for each in self._all(document) if document.uri not in told else ():
+                told.setdefault(each["uri"], each)
+        self._kept = {uri: kept for uri, kept in self._kept.items() if uri in told}
+        return {"items": [_reported(each, before.get(uri)) for uri, each in told.items()]}
+
+    def _all(self, document: Document) -> list[Json]:
+        """What is found in the documents that are loaded with one, whether they are open or not. It is kept as long as
+        none of them changes."""
+        if document.is_other_version:
+            return [self._published(document, [])]
+        catalog, reference = self._workspace.catalog(document), self._workspace.reference(document)
+        read = [*catalog.documents, *reference.documents]
+        key = (self._workspace.settings, catalog.unread, reference.unread)
+        kept = self._kept.get(document.uri)
+        if kept is None or kept.key != key or list(map(id, kept.read)) != list(map(id, read)):
+            told = self._check(document, catalog, reference, lambda _: True)
+            kept = _Kept(key, read, told)
+            for each in told:
+                self._kept[each["uri"]] = kept
+            self._kept[document.uri] = kept
+            self._drop_closed()
+        return kept.told
+
+    def _drop_closed(self) -> None:
+        """Forgets what fixes were made of in documents that aren't open."""
+        for uri in [uri for uri in self._found if uri not in self._workspace.open]:
+            self.forget(uri)
+
     def _told(self, document: Document, checked: _Checked) -> Json:
         self._found[document.uri] = own = [each for each in checked.found if each.file == document.uri]
         told = [_at_first_line(document, _WARNING, "unread-file", words) for words in checked.unread]
@@ -189,17 +275,20 @@ class Checks:
         return _at_first_line(document, _WARNING, "missing-file", words)
 
     def _related(self, finding: Finding, checked: _Checked) -> Json:
-        """The place of the other entry, if a finding names it, for clients that show it."""
-        named = _DUPLICATE.match(finding.text) if self.has_related and finding.code == "duplicate-id" else None
+        """The place of the other entry, or that of the reference, for clients that show it."""
+        if not self.has_related:
+            return {}
+        if finding.code in _COMPARED:
+            original = checked.originals.get((finding.entry or "").partition(".")[0])
+            return _related_to(*original, "the message of the reference") if original else {}
+        named = _DUPLICATE.match(finding.text) if finding.code == "duplicate-id" else None
         document = checked.names.get(named[1]) if named else None
         if named is None or document is None:
             return {}
         id = (finding.entry or "").removeprefix("-")
         for entry in document.places.entries:
-            start = entry.name_start
-            if entry.id == id and document.lines.position(start)[0] + 1 == int(named[2]):
-                location = {"uri": document.uri, "range": document.range(start, start + len(id))}
-                return {"relatedInformation": [{"location": location, "message": "the other entry"}]}
+            if entry.id == id and document.lines.position(entry.name_start)[0] + 1 == int(named[2]):
+                return _related_to(document, entry, "the other entry")
         return {}
 
     def _refused(self, document: Document) -> Json:
@@ -207,10 +296,17 @@ class Checks:
         words = "the source nests too deep, or memory ran out"
         return self._published(document, [_at_first_line(document, _ERROR, "memory", words)])
 
-    @staticmethod
-    def _published(document: Document, told: list[Json]) -> Json:
+    def _published(self, document: Document, told: list[Json]) -> Json:
+        if self.has_links:
+            told = [{**each, **link_of(each["code"])} for each in told]
         version = {} if document.version is None else {"version": document.version}
         return {"uri": document.uri, "diagnostics": told, **version}
+
+def _related_to(document: Document, entry: Entry, words: str) -> Json:
+    """The place of an entry, as what a finding is related to."""
+    place = document.range(entry.name_start, entry.name_start + len(entry.id))
+    return {"relatedInformation": [{"location": {"uri": document.uri, "range": place}, "message": words}]}
+
 
 def _missing(found: Iterable[Finding]) -> dict[str, list[str]]:
     """The ids of messages that are missing, by the URIs of the reference's files that have them."""
@@ -256,14 +352,23 @@ def missing_messages(document: Document, lacks: list[str]) -> Json:
 
 
 def _at_first_line(document: Document, severity: int, code: str, message: str) -> Json:
-    end = utf16_length(document.lines.line(0).decode(errors="replace"))
     return {
-        "range": {"start": {"line": 0, "character": 0}, "end": {"line": 0, "character": end}},
+        "range": document.range(0, len(document.lines.line(0))),
         "severity": severity,
         "code": code,
         "source": "kozhvadi",
         "message": message,
     }
+
+
+def _reported(told: Json, before: object) -> Json:
+    """What was found in a document, as a report on the workspace has it."""
+    text = json.dumps(told["diagnostics"], sort_keys=True)
+    result = hashlib.sha256(text.encode()).hexdigest()[:16]
+    report = {"uri": told["uri"], "version": told.get("version"), "resultId": result}
+    if result == before:
+        return {**report, "kind": "unchanged"}
+    return {**report, "kind": "full", "items": told["diagnostics"]}
 
 
 def _placed(finding: Finding, document: Document, marks: dict[str, str]) -> Finding:

@@ -45,6 +45,15 @@ class Workspace:
         self._files = Files()
 
     @property
+    def counts_bytes(self) -> bool:
+        """Whether positions count bytes, and not code units of UTF-16."""
+        return self._files.counts_bytes
+
+    @counts_bytes.setter
+    def counts_bytes(self, counts: bool) -> None:
+        self._files.counts_bytes = counts
+
+    @property
     def roots(self) -> list[Path]:
         """The folders of the workspace, the innermost first."""
         return [root.path for root in self._roots]
@@ -81,7 +90,8 @@ class Workspace:
     def take(self, uri: str, text: str, version: int | None = None) -> Document:
         """Takes a document that is opened, or its new text. Returns the document."""
         path = path_of(uri)
-        document = Document(uri, text, version, path=self._in_workspace(path) if path else None)
+        placed = self._in_workspace(path) if path else None
+        document = Document(uri, text, version, path=placed, counts_bytes=self.counts_bytes)
         self.open.pop(uri, None)
         self.open[uri] = document
         self._index()
@@ -131,7 +141,7 @@ class Workspace:
         """Each open document, and each file of the workspace that isn't open. One file is there once: as the document
         that is asked about, or as the one that is open and changed last. Folders that can't be listed are passed over.
         """
-        first = [*([asked] if asked else []), *reversed(self.open.values())]
+        first = [*([asked] if asked else []), *(each for each in self.current() if each is not asked)]
         files = {file.real: file for root in self.roots for file in Listing(root, below=True).files}
         self._files.keep(files)
         loaded = self._loaded(files.values(), first)
@@ -141,6 +151,10 @@ class Workspace:
             inode = inode_of(document.real) if document.real else None
             named.setdefault(inode or document.identity, document)
         return Loaded(list(named.values()), loaded.unread)
+
+    def current(self) -> list[Document]:
+        """The open documents that aren't other versions of a file, the one that changed last first."""
+        return [each for each in reversed(self.open.values()) if not each.is_other_version]
 
     def mark(self, document: Document) -> str:
         """The byte order mark that the file of a document has before the text, if the text hasn't one."""
@@ -215,6 +229,11 @@ class Workspace:
         if self._roots and root is None and not Path(self.settings.reference).is_absolute():
             return None
         return Path(os.path.normpath((root or path.parent) / self.settings.reference))
+
+    def reference_folder(self, path: Path) -> Path | None:
+        """The folder of the reference of a file, if that is one."""
+        reference = self._reference_for(path)
+        return reference if reference and reference.suffix != ".ftl" else None
 
     def missing_reference(self, document: Document) -> str | None:
         """Says that the reference of a document isn't there."""
