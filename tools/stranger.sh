@@ -130,6 +130,21 @@ for name in ("", "page.css", "page.js", "start"):
     assert urllib.request.urlopen(server.address + name).read()'
 }
 
+# The mode of Emacs and the syntax of Vim are where the guide says.
+highlights() {
+    local share=home/.local/share/editors
+    [ -s "$share/fluent.tmLanguage.json" ] || return
+    if command -v vim >/dev/null; then
+        vim -es -N -u NONE -i NONE --cmd "set runtimepath^=$share/vim" -c 'filetype plugin on | syntax on' \
+            -c 'edit a\ stranger/hello.ftl' -c 'call writefile([&filetype, synIDattr(synID(1, 1, 1), "name")], "seen")' -c 'qa!' </dev/null
+        [ "$(paste -sd' ' seen)" = 'fluent fluentMessage' ] || return
+    fi
+    if command -v emacs >/dev/null; then
+        emacs -Q --batch -L "$share/emacs" -l fluent-mode --eval '(find-file "a stranger/hello.ftl")' \
+            --eval '(princ major-mode)' | grep -qx fluent-mode
+    fi
+}
+
 rust_program() {
     cargo init --quiet --vcs none --name stranger rust && (cd rust && follows 4) && cat >rust/src/main.rs <<'RUST'
 use kozhvadi::{FluentArgs, FluentBundle, FluentResource};
@@ -162,6 +177,7 @@ step_with 'cc pkg-config' 'a C program links it by pkg-config, and runs' c_progr
 step_with nm 'the shared library gives out the header alone' exports_the_header_alone
 step_with python3 'pip installs the wheel, and a program uses it' python_program
 step_with python3 'its language server and its playground begin' python_tools
+step_with bash 'editors highlight a file' highlights
 step_with cargo 'cargo builds a program over the package' rust_program
 
 counts
