@@ -120,7 +120,8 @@ assert doctest.DocTestRunner().run(doctest.DocTestParser().get_doctest(session, 
 python_tools() {
     local message='{"id":1,"method":"initialize","params":{"capabilities":{}}}'
     cd 'a stranger' && printf 'Content-Length: %d\r\n\r\n%s' ${#message} "$message" >message &&
-        { ../home/kozhvadi/bin/python -m kozhvadi.server <message >answer || [ $? = 1 ]; } && grep -q '"name":"kozhvadi"' answer &&
+        { ../home/kozhvadi/bin/kozhvadi-server <message >answer || [ $? = 1 ]; } && grep -q '"name":"kozhvadi"' answer &&
+        ../home/kozhvadi/bin/kozhvadi-playground --help | grep -q -- --reference &&
         ../home/kozhvadi/bin/python -c '
 from kozhvadi.playground._pages import Playground
 import threading, urllib.request
