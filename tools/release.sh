@@ -87,10 +87,17 @@ python_part() {
     rm -rf "$parts"
 }
 
+# What editors take: highlighting for Vim, Emacs, and those that read grammars of TextMate.
+editor_part() {
+    mkdir -p "$folder/share/editors"
+    cp -R "$root/editors/vim" "$root/editors/emacs" "$root/editors/fluent.tmLanguage.json" "$folder/share/editors"
+}
+
 program_part
 library_part
 cargo_part
 python_part
+editor_part
 python3 "$made/pages.py" "$root" "$folder"
 install -m 755 "$made/install.sh" "$folder/install.sh"
 install -m 644 "$made/README.md" "$folder/README.md"

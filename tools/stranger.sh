@@ -143,7 +143,8 @@ assert doctest.DocTestRunner().run(doctest.DocTestParser().get_doctest(session, 
 python_tools() {
     local message='{"id":1,"method":"initialize","params":{"capabilities":{}}}'
     cd 'a stranger' && printf 'Content-Length: %d\r\n\r\n%s' ${#message} "$message" >message &&
-        { ../home/kozhvadi/bin/python -m kozhvadi.server <message >answer || [ $? = 1 ]; } && grep -q '"name":"kozhvadi"' answer &&
+        { ../home/kozhvadi/bin/kozhvadi-server <message >answer || [ $? = 1 ]; } && grep -q '"name":"kozhvadi"' answer &&
+        ../home/kozhvadi/bin/kozhvadi-playground --help | grep -q -- --reference &&
         ../home/kozhvadi/bin/python -c '
 from kozhvadi.playground._pages import Playground
 import threading, urllib.request
@@ -151,6 +152,21 @@ server = Playground(0, dict)
 threading.Thread(target=server.serve_forever, daemon=True).start()
 for name in ("", "page.css", "page.js", "start"):
     assert urllib.request.urlopen(server.address + name).read()'
+}
+
+# The mode of Emacs and the syntax of Vim are where the guide says.
+highlights() {
+    local share=home/.local/share/editors
+    [ -s "$share/fluent.tmLanguage.json" ] || return
+    if command -v vim >/dev/null; then
+        vim -es -N -u NONE -i NONE --cmd "set runtimepath^=$share/vim" -c 'filetype plugin on | syntax on' \
+            -c 'edit a\ stranger/hello.ftl' -c 'call writefile([&filetype, synIDattr(synID(1, 1, 1), "name")], "seen")' -c 'qa!' </dev/null
+        [ "$(paste -sd' ' seen)" = 'fluent fluentMessage' ] || return
+    fi
+    if command -v emacs >/dev/null; then
+        emacs -Q --batch -L "$share/emacs" -l fluent-mode --eval '(find-file "a stranger/hello.ftl")' \
+            --eval '(princ major-mode)' | grep -qx fluent-mode
+    fi
 }
 
 rust_program() {
@@ -186,6 +202,7 @@ step_with 'c++ cmake' 'a C++ program finds it by CMake, and runs' cpp_program
 step_with nm 'the shared library gives out the header alone' exports_the_header_alone
 step_with python3 'pip installs the wheel, and a program uses it' python_program
 step_with python3 'its language server and its playground begin' python_tools
+step_with bash 'editors highlight a file' highlights
 step_with cargo 'cargo builds a program over the package' rust_program
 
 counts

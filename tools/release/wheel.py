@@ -11,6 +11,7 @@ commit gives the same bytes, and needs no build backend.
 import base64
 import hashlib
 import os
+import re
 import sys
 import time
 import zipfile
@@ -46,6 +47,16 @@ def record(files, name):
     return ''.join(line(path, data) for path, data in sorted(files.items())).encode() + f'{name},,\n'.encode()
 
 
+# The commands of the package, as pyproject.toml has them, and the pages that explain the codes of findings.
+SCRIPTS = re.compile(r'^\[project\.scripts\]\n((?:[\w-]+ = "[\w.:]+"\n)+)', re.M)
+PAGES = ('reference/lint.md', 'guide/11-editors.md')
+
+
+def entry_points(bindings):
+    scripts = SCRIPTS.search((bindings / 'pyproject.toml').read_text(encoding='utf-8'))[1]
+    return f'[console_scripts]\n{scripts}'.replace('"', '').encode()
+
+
 def contents(bindings, library, extension, version):
     package = bindings / 'kozhvadi'
     files = {
@@ -56,9 +67,12 @@ def contents(bindings, library, extension, version):
     files['kozhvadi/libfluent_c.so'] = library.read_bytes()
     if extension.is_file():
         files['kozhvadi/_fast.abi3.so'] = extension.read_bytes()
+    for page in PAGES:
+        files[f'kozhvadi/server/pages/{page}'] = page_of(bindings.parents[1], f'docs/{page}', {}).encode()
     info = f'kozhvadi-{version}.dist-info'
     files[f'{info}/METADATA'] = metadata(bindings, version)
     files[f'{info}/WHEEL'] = wheel()
+    files[f'{info}/entry_points.txt'] = entry_points(bindings)
     files[f'{info}/RECORD'] = record(files, f'{info}/RECORD')
     return files
 

@@ -9,10 +9,13 @@ _LINE_END = re.compile(rb"\r\n|\n|\r")
 
 
 class Lines:
-    """The lines of a source in UTF-8. One ends in LF, CR LF or CR, as the protocol says, and counts from 0."""
+    """The lines of a source in UTF-8. One ends in LF, CR LF or CR, as the protocol says, and counts from 0.
 
-    def __init__(self, source: bytes) -> None:
-        self.source = source
+    Characters of a line are code units of UTF-16, or its bytes if `counts_bytes`.
+    """
+
+    def __init__(self, source: bytes, counts_bytes: bool = False) -> None:
+        self.source, self._counts_bytes = source, counts_bytes
         self._starts = [0]
         self._ends: list[int] = []
         for end in _LINE_END.finditer(source):
@@ -21,11 +24,12 @@ class Lines:
         self._ends.append(len(source))
 
     def position(self, offset: int) -> tuple[int, int]:
-        """The line of an offset in bytes, and how many code units of UTF-16 are before it in its line."""
+        """The line of an offset in bytes, and how many characters are before it in its line."""
         offset = min(max(offset, 0), len(self.source))
         line = bisect_right(self._starts, offset) - 1
         before = self.source[self._starts[line] : offset]
-        return line, len(before) if before.isascii() else utf16_length(before.decode(errors="ignore"))
+        is_length = self._counts_bytes or before.isascii()
+        return line, len(before) if is_length else utf16_length(before.decode(errors="ignore"))
 
     def offset(self, line: int, character: int) -> int:
         """The offset of a position. One after the end of a line is that of its end, and so for the source."""
@@ -34,6 +38,8 @@ class Lines:
         if line >= len(self._starts):
             return len(self.source)
         start, text = self._starts[line], self.source[self._starts[line] : self._ends[line]]
+        if self._counts_bytes:
+            return start + _whole(text, min(character, len(text)))
         if text.isascii():
             return start + min(character, len(text))
         units = text.decode(errors="replace").encode("utf-16-le")[: 2 * character]
@@ -45,6 +51,13 @@ class Lines:
 
     def __len__(self) -> int:
         return len(self._starts)
+
+
+def _whole(text: bytes, offset: int) -> int:
+    """An offset, or the front of the character that it is inside."""
+    while 0 < offset < len(text) and text[offset] & 0xC0 == 0x80:
+        offset -= 1
+    return offset
 
 
 def utf16_length(text: str) -> int:

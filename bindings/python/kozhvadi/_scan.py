@@ -12,18 +12,19 @@ from dataclasses import dataclass, field
 from typing import NamedTuple
 
 from ._occurrences import Occurrence, Symbol
+from ._stopping import go_on
 
 _NAME = rb"[A-Za-z][A-Za-z0-9_-]*"
 _HEADS = re.compile(rb"^-?" + _NAME + rb" *=", re.MULTILINE)
 _HEAD = re.compile(rb"(-?)(" + _NAME + rb") *=")
 _ATTRIBUTE = re.compile(rb"\.(" + _NAME + rb") *=")
-_VARIANT = re.compile(rb"(\*?)\[[ \r\n]*(" + _NAME + rb"|-?[0-9]+(?:\.[0-9]+)?)[ \r\n]*\]")
+VARIANT = re.compile(rb"(\*?)\[[ \r\n]*(" + _NAME + rb"|-?[0-9]+(?:\.[0-9]+)?)[ \r\n]*\]")
 _TEXT = re.compile(rb"[^{}\n]+")
 _LINE_START = re.compile(rb"\n(?: *\r?\n)*( *)")
-_BLANK = re.compile(rb"[ \r\n]+")
-_CALLED = re.compile(rb"[ \r\n]*\(")
+BLANK = re.compile(rb"[ \r\n]+")
+CALLED = re.compile(rb"[ \r\n]*\(")
 _ACCESSOR = re.compile(rb"[ \r\n]*\.(" + _NAME + rb")")
-_NAMED = re.compile(rb"[ \r\n]*:")
+NAMED = re.compile(rb"[ \r\n]*:")
 _ORDINAL = re.compile(rb'type[ \r\n]*:[ \r\n]*"ordinal"')
 _TOKEN = re.compile(
     rb'(?P<string>"(?:[^"\\\n]|\\[^\n])*"?)'
@@ -170,6 +171,7 @@ class Scan:
         self.at = len(_MARK) if source.startswith(_MARK) else 0
         comment: list[str] = []
         while self.at < len(source):
+            go_on()
             head = _HEAD.match(source, self.at)
             if head:
                 self._entry(head, "\n".join(comment))
@@ -243,7 +245,7 @@ class Scan:
         attribute = _ATTRIBUTE.match(self.source, after)
         if attribute:
             self._attribute(attribute)
-        elif in_variant and (sign == b"}" or _VARIANT.match(self.source, after)):
+        elif in_variant and (sign == b"}" or VARIANT.match(self.source, after)):
             self.open.pop()
             self.at = after
         elif not indent and sign != b"{":
@@ -263,7 +265,7 @@ class Scan:
         """The next variant of a select, or its end."""
         if self._blank() or self.at == len(self.source):
             return
-        variant = _VARIANT.match(self.source, self.at)
+        variant = VARIANT.match(self.source, self.at)
         if variant:
             found = Variant(variant[2].decode(), bool(variant[1]), variant.start(), variant.end())
             self.open[-1].select.variants.append(found)
@@ -277,7 +279,7 @@ class Scan:
 
     def _blank(self) -> bool:
         """Passes over a blank between braces. At an entry that begins there, what is open is broken off."""
-        blank = _BLANK.match(self.source, self.at)
+        blank = BLANK.match(self.source, self.at)
         if not blank:
             return False
         self.at = blank.end()
@@ -310,6 +312,11 @@ class Scan:
             self._broken()
             return
         self.at = token.end()
+        self._take(token)
+
+    def _take(self, token: re.Match[bytes]) -> None:
+        """Takes a token of a placeable or a call."""
+        top = self.open[-1]
         if token["sign"]:
             self._sign(token["sign"], token.start())
             return
@@ -373,11 +380,11 @@ class Scan:
     def _name(self, token: re.Match[bytes]) -> None:
         """A message, a function, or the name of an argument."""
         name, top = token["name"].decode(), self.open[-1]
-        if _CALLED.match(self.source, self.at):
+        if CALLED.match(self.source, self.at):
             top.named = Symbol("function", name)
             self._refer(top.named, token.start(), None, token.span("name"))
             return
-        if top.kind == "call" and _NAMED.match(self.source, self.at):
+        if top.kind == "call" and NAMED.match(self.source, self.at):
             if top.callee and top.callee.kind == "term":
                 symbol = Symbol("variable", name, str(top.callee))
                 self.occurrences.append(Occurrence(symbol, *token.span("name"), False))

@@ -32,6 +32,16 @@ METHODS = [
     "textDocument/completion",
     "textDocument/codeAction",
     "textDocument/formatting",
+    "textDocument/foldingRange",
+    "textDocument/selectionRange",
+    "textDocument/inlayHint",
+    "textDocument/codeLens",
+    "textDocument/semanticTokens/full",
+    "textDocument/semanticTokens/range",
+    "textDocument/diagnostic",
+    "workspace/diagnostic",
+    "workspace/executeCommand",
+    "workspace/willRenameFiles",
     "workspace/didChangeConfiguration",
     "workspace/didChangeWatchedFiles",
     "workspace/didChangeWorkspaceFolders",
@@ -59,6 +69,14 @@ KEYS = [
     "context",
     "settings",
     "event",
+    "positions",
+    "files",
+    "oldUri",
+    "newUri",
+    "command",
+    "arguments",
+    "previousResultIds",
+    "processId",
     "added",
     "removed",
     "options",
@@ -117,6 +135,11 @@ def parameters(chance):
         "settings": value(chance, 2),
         "capabilities": {},
         "event": {"added": [], "removed": []},
+        "positions": [place],
+        "files": [{"oldUri": uri, "newUri": chance.choice(TEXTS[:4])}],
+        "command": "kozhvadi.createMissingFiles",
+        "arguments": [uri],
+        "previousResultIds": [],
     }
     if chance.random() < 0.2:
         given[chance.choice(list(given))] = value(chance, 3)
@@ -125,7 +148,7 @@ def parameters(chance):
 
 def message(chance):
     """The bytes of a message, or of what is none."""
-    methods = METHODS if chance.random() < 0.2 else METHODS[2:20]
+    methods = METHODS if chance.random() < 0.2 else METHODS[2:30]
     made = {"jsonrpc": "2.0", "method": chance.choice(methods), "params": parameters(chance)}
     if chance.random() < 0.7:
         made["id"] = chance.randrange(1000) if chance.random() < 0.9 else chance.choice(["x", None, 1.5, [], True])

@@ -33,9 +33,10 @@ local function go(text)
 end
 
 -- The lines of the guide, as a user has them in init.lua.
-vim.cmd("cd " .. vim.fn.fnameescape(FOLDER))
+-- The workspace is found from any folder.
+vim.cmd("cd " .. vim.fn.fnameescape(FOLDER .. "/l10n/pl"))
 vim.cmd("luafile " .. GUIDE)
-vim.cmd("edit l10n/pl/main.ftl")
+vim.cmd("edit main.ftl")
 await(function()
     return #vim.lsp.get_active_clients() > 0
 end)
@@ -93,6 +94,13 @@ else
     vim.lsp.buf.formatting_sync(nil, 30000)
 end
 tell("formatted", lines_of("l10n/pl/main.ftl"))
+
+local settings = { settings = { kozhvadi = { reference = "l10n/none" } } }
+vim.lsp.get_client_by_id(client).notify("workspace/didChangeConfiguration", settings)
+await(function()
+    return #found() > 0 and found()[1][1] == 0
+end)
+tell("without the reference", found())
 
 vim.lsp.stop_client(client)
 await(function()

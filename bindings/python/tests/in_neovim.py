@@ -48,8 +48,12 @@ class NeovimTest(unittest.TestCase):
             (folder / "l10n/pl/link.ftl").symlink_to("main.ftl")
             guide = Path(made, "guide.lua")
             guide.write_text(lines_of_the_guide(), encoding="utf-8")
+            server = Path(made, "bin/kozhvadi-server")
+            server.parent.mkdir()
+            server.write_text(f'#!/bin/sh\nexec "{sys.executable}" -m kozhvadi.server "$@"\n', encoding="utf-8")
+            server.chmod(0o755)
             set_up = f"lua FOLDER, GUIDE, OUT = [[{folder}]], [[{guide}]], [[{out}]]"
-            home = {"PYTHONPATH": str(HERE.parent), "PATH": f"{Path(sys.executable).parent}:{os.environ['PATH']}"}
+            home = {"PYTHONPATH": str(HERE.parent), "PATH": f"{server.parent}:{os.environ['PATH']}"}
             home |= {
                 "HOME": made,
                 "XDG_CONFIG_HOME": made,
@@ -111,6 +115,8 @@ class NeovimTest(unittest.TestCase):
         ]
         self.assertEqual(told["mended"], mended)
         self.assertEqual(told["formatted"][-1], "last = { $x }")
+        (absent,) = [each for each in told["without the reference"] if each[0] == 0]
+        self.assertIn("the reference l10n/none isn't in", absent[2])
         self.assertTrue(told["stopped"])
 
 

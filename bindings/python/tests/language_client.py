@@ -137,7 +137,8 @@ def edited(source, edits):
         line = lines[position["line"]].encode("utf-16-le")[: 2 * position["character"]].decode("utf-16-le")
         return sum(len(each) + 1 for each in lines[: position["line"]]) + len(line)
 
-    for edit in sorted(edits, key=lambda edit: offset(edit["range"]["start"]), reverse=True):
+    # Of texts at one place the first one is before the others.
+    for edit in reversed(sorted(edits, key=lambda edit: offset(edit["range"]["start"]))):
         start, end = offset(edit["range"]["start"]), offset(edit["range"]["end"])
         source = source[:start] + edit["newText"] + source[end:]
     return source

@@ -197,7 +197,7 @@ class WorkspaceTest(WorkspaceCase):
             client.start(self.root, reference="en", catalog=catalog)
             for name in ("translations/pl/x/main.ftl", "pl/x/main.ftl"):
                 uri = client.open(self.root / name)
-                (found,) = client.diagnostics(uri)
+                *_, found = client.diagnostics(uri)
                 self.assertIn("no translation: `two`", found["message"])
             client.told.clear()
             reference = client.open(self.root / "en/x/main.ftl")
@@ -405,9 +405,9 @@ class WorkspaceTest(WorkspaceCase):
         told = self.client.ask("textDocument/formatting", textDocument={"uri": uri}, options={})
         self.assertEqual(told["code"], -32803)
 
-    def actions(self, uri, line, character):
+    def actions(self, uri, line, character, **context):
         place = {"line": line, "character": character}
-        asked = {"range": {"start": place, "end": place}, "context": {"diagnostics": []}}
+        asked = {"range": {"start": place, "end": place}, "context": {"diagnostics": [], **context}}
         return self.client.ask("textDocument/codeAction", textDocument={"uri": uri}, **asked)
 
     def test_fixes(self):
@@ -420,7 +420,13 @@ class WorkspaceTest(WorkspaceCase):
             POLISH.replace("nmae", "name").replace("   *[other]", "    [many] { $count } inne.\n   *[other]")
             + "bye = Bye\n",
         )
-        self.assertEqual(self.actions(uri, 0, 0), [])
+        # What mends a complete file is offered at each place.
+        self.assertEqual(
+            [each["kind"] for each in self.actions(uri, 0, 0)],
+            ["source.fixAll.kozhvadi", "source.addMissing.kozhvadi"],
+        )
+        (every,) = self.actions(uri, 0, 0, only=["source.fixAll"])
+        self.assertEqual(edited(POLISH, every["edit"]["changes"][uri]), edited(POLISH, edits[:2]))
 
     def test_changes_by_chance(self):
         """After whatever edits the findings are those of the text that is there."""

@@ -159,9 +159,10 @@ class RootsTest(WorkspaceCase):
     def test_a_folder_without_a_reference_has_none(self):
         self.file("three/l10n/pl/m.ftl", "a = { $none }\n")
         self.start("one", "three", reference="l10n/en-US")
-        self.assertEqual(self.told("three"), [])
+        words = f"the reference l10n/en-US isn't in {self.root / 'three'}"
+        self.assertEqual(self.told("three"), [f"{words}: nothing is compared"])
         self.assertEqual(self.told("two"), [])
-        self.assertEqual(self.shown(), [f"kozhvadi: the reference l10n/en-US isn't in {self.root / 'three'}"])
+        self.assertEqual(self.shown(), [f"kozhvadi: {words}"])
 
     def test_folders_that_change(self):
         can = self.start("one", reference="l10n/en-US")
@@ -240,7 +241,7 @@ class SettingsTest(WorkspaceCase):
         )
 
     def test_a_reference_that_is_missing_is_named_once(self):
-        self.assertEqual(self.started(reference="l10n/en-USS"), ["unknown-function"])
+        self.assertEqual(self.started(reference="l10n/en-USS"), ["missing-reference", "unknown-function"])
         self.after({})
         words = f"isn't in {self.root}"
         self.assertEqual(self.shown(), [f"kozhvadi: the reference l10n/en-USS {words}"])

@@ -9,9 +9,10 @@ from .._fixes import NUMBER_OPTIONS, reference_variables
 from .._occurrences import Symbol
 from .._samples import Catalog, categories
 from .._scan import Inside, inside
-from ._checks import Json, position_of
+from ._checks import position_of
 from ._documents import Document
 from ._session import Params
+from ._wire import Json
 from ._workspace import Workspace
 
 _NAME = rb"[A-Za-z][A-Za-z0-9_-]*"

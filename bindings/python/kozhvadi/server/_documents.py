@@ -12,23 +12,42 @@ from urllib.parse import unquote_to_bytes, urlsplit
 from .._linting import lint
 from .._places import Places
 from .._positions import Lines
+from .._stopping import go_on
+from .._tokens import Token, Tokens
 
 MARK = "\ufeff"
+
+# Documents of these schemes are what a file was, or what it will be, as a comparison shows them.
+_OTHER_VERSIONS = {"git", "gitlens", "gitlens-git", "hg", "svn", "pr", "review", "fugitive", "diffview"}
 
 
 class Document:
     """A source: a document that is open in the editor, or a file.
 
     `path` is where it belongs in the workspace, and `real` is that path without symbolic links. `mark` is the byte
-    order mark of a file: editors don't show it, so it isn't in the text, and positions don't count it.
+    order mark of a file: editors don't show it, so it isn't in the text, and positions don't count it. A position
+    counts bytes if `counts_bytes`, and otherwise code units of UTF-16.
     """
 
     def __init__(
-        self, uri: str, text: str, version: int | None = None, *, path: Path | None = None, mark: str = ""
+        self,
+        uri: str,
+        text: str,
+        version: int | None = None,
+        *,
+        path: Path | None = None,
+        mark: str = "",
+        counts_bytes: bool = False,
     ) -> None:
         self.uri, self.text, self.version, self.path, self.mark = uri, text, version, path, mark
+        self._counts_bytes = counts_bytes
         self.real = real_path(path) if path else None
         self.source = text.encode()
+
+    @property
+    def is_other_version(self) -> bool:
+        """Whether it is a file as it was at another time, or by another branch."""
+        return self.uri.partition(":")[0] in _OTHER_VERSIONS
 
     @property
     def identity(self) -> Path | str:
@@ -37,11 +56,15 @@ class Document:
 
     @cached_property
     def lines(self) -> Lines:
-        return Lines(self.source)
+        return Lines(self.source, self._counts_bytes)
 
     @cached_property
     def places(self) -> Places:
         return Places(self.source)
+
+    @cached_property
+    def tokens(self) -> list[Token]:
+        return Tokens(self.source).tokens
 
     @cached_property
     def is_too_deep(self) -> bool:
@@ -66,6 +89,7 @@ class Document:
 
     def range(self, start: int, end: int) -> dict[str, dict[str, int]]:
         """The range between two offsets."""
+        go_on()
         (line, character), (last, after) = self.lines.position(start), self.lines.position(end)
         return {"start": {"line": line, "character": character}, "end": {"line": last, "character": after}}
 

@@ -78,6 +78,7 @@ class Files:
 
     def __init__(self) -> None:
         self._read: dict[Path, tuple[tuple[int, ...], Document | Unread]] = {}
+        self.counts_bytes = False
 
     def read(self, path: Path, shown: Callable[[], Path]) -> Document | Unread | None:
         """The file at a path without symbolic links, and the path by which it is named. Nothing if there is no file."""
@@ -92,7 +93,7 @@ class Files:
         stamp = (status.st_mtime_ns, status.st_size, status.st_ino)
         kept = self._read.get(path)
         if kept is None or kept[0] != stamp:
-            kept = self._read[path] = stamp, _read(path, shown(), status.st_size)
+            kept = self._read[path] = stamp, _read(path, shown(), status.st_size, self.counts_bytes)
         return kept[1]
 
     def keep(self, paths: Container[Path]) -> None:
@@ -104,7 +105,7 @@ class Files:
         self._read.clear()
 
 
-def _read(path: Path, shown: Path, size: int) -> Document | Unread:
+def _read(path: Path, shown: Path, size: int, counts_bytes: bool) -> Document | Unread:
     if size > _LARGEST:
         return Unread(shown, f"is larger than {_LARGEST // 2**20} MiB")
     try:
@@ -114,7 +115,7 @@ def _read(path: Path, shown: Path, size: int) -> Document | Unread:
     except OSError as error:
         return Unread(shown, f"can't be read: {_reason(error)}")
     mark = MARK if text.startswith(MARK) else ""
-    return Document(shown.as_uri(), text.removeprefix(mark), path=shown, mark=mark)
+    return Document(shown.as_uri(), text.removeprefix(mark), path=shown, mark=mark, counts_bytes=counts_bytes)
 
 
 def mark_of(path: Path) -> str:

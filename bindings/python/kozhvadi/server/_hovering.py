@@ -10,9 +10,10 @@ from .._occurrences import Symbol
 from .._positions import utf16_length
 from .._samples import Catalog, categories, known
 from .._scan import Entry
-from ._checks import Json, position_of
+from ._checks import position_of
 from ._documents import Document
 from ._session import Params
+from ._wire import Json
 from ._workspace import Workspace
 
 # What is Markdown in a text that follows a title: links, images, marks, tags and entities, and what begins a line.

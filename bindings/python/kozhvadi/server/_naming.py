@@ -7,9 +7,10 @@ from collections.abc import Iterator
 
 from .._occurrences import Occurrence, Symbol
 from .._scan import Entry
-from ._checks import Json, position_of
+from ._checks import position_of
 from ._documents import Document, Loaded
 from ._session import INVALID_PARAMS, REQUEST_FAILED, Params, Refused
+from ._wire import Json
 from ._workspace import Workspace
 
 _NAME = re.compile(r"[A-Za-z][A-Za-z0-9_-]*")

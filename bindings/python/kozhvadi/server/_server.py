@@ -3,48 +3,37 @@
 from __future__ import annotations
 
 import sys
-import threading
 import time
 from collections.abc import Callable
-from queue import Empty, Queue
+from queue import Empty
 from typing import Any
 
 from .. import __version__
 from .._linting import TidyError, tidy
-from ._checks import Checks, Json
+from .._stopping import stop_if
+from ._abilities import Abilities
+from ._actions import CREATE_FILES, Actions
+from ._checks import Checks
 from ._completion import Completion
-from ._documents import Document, shown_path
+from ._documents import Document
+from ._highlighting import Highlighting
+from ._hints import Hints
 from ._hovering import Hovering
+from ._inbox import Inbox
+from ._moving import Moving
 from ._naming import Naming
-from ._session import PARSE_ERROR, REQUEST_FAILED, Params, Refused, Session
+from ._parent import watch
+from ._session import INVALID_PARAMS, PARSE_ERROR, REQUEST_FAILED, Params, Refused, Session
 from ._settings import Settings, own, own_among_others, settings_in
-from ._wire import Damaged, Input, Output, Reader, writer
+from ._structure import Structure
+from ._wire import Damaged, Input, Json, Output, writer
 from ._workspace import Workspace
-
-# This many messages are read ahead.
-_AHEAD = 1000
 
 # While messages keep coming, documents are checked this often, in seconds.
 _PATIENCE = 0.3
 
 # This many warnings are shown at most, each once.
 _MOST_SHOWN = 1000
-
-_CAPABILITIES = {
-    "positionEncoding": "utf-16",
-    "textDocumentSync": {"openClose": True, "change": 1, "save": {"includeText": False}},
-    "definitionProvider": True,
-    "referencesProvider": True,
-    "documentHighlightProvider": True,
-    "hoverProvider": True,
-    "completionProvider": {"triggerCharacters": ["{", "$", "-", ".", "(", "["], "resolveProvider": False},
-    "documentSymbolProvider": True,
-    "workspaceSymbolProvider": True,
-    "documentFormattingProvider": True,
-    "renameProvider": {"prepareProvider": True},
-    "codeActionProvider": {"codeActionKinds": ["quickfix"]},
-    "workspace": {"workspaceFolders": {"supported": True, "changeNotifications": True}},
-}
 
 
 class Server:
@@ -54,12 +43,17 @@ class Server:
         self._send = send
         self.workspace = Workspace()
         self._checks = Checks(self.workspace)
+        self._actions = Actions(self.workspace, self._checks)
         self._naming, self._hovering = Naming(self.workspace), Hovering(self.workspace)
-        self._completion = Completion(self.workspace)
+        self._completion, self._moving = Completion(self.workspace), Moving(self.workspace)
+        structure, hints, highlighting = Structure(self.workspace), Hints(self.workspace), Highlighting(self.workspace)
         self._unchecked: dict[str, None] = {}
         self._shown: set[str] = set()
         self._initial: dict[str, Any] = {}
-        self._can_watch = False
+        self._is_stale = False
+        self.ended: Callable[[], None] = lambda: None
+        self._can = Abilities()
+        self._asked = 0
         answers: dict[str, Callable[[Params], object]] = {
             "initialize": self._initialize,
             "shutdown": lambda _: None,
@@ -72,8 +66,18 @@ class Server:
             "textDocument/rename": self._naming.rename,
             "textDocument/hover": self._hovering.hover,
             "textDocument/completion": self._completion.complete,
-            "textDocument/codeAction": self._checks_asked(self._checks.actions),
+            "textDocument/codeAction": self._checks_asked(self._actions.actions),
+            "workspace/executeCommand": self._checks_asked(self._execute),
             "textDocument/formatting": self._format,
+            "textDocument/foldingRange": structure.folds,
+            "textDocument/selectionRange": structure.selections,
+            "textDocument/inlayHint": hints.hints,
+            "textDocument/codeLens": hints.lenses,
+            "textDocument/semanticTokens/full": highlighting.full,
+            "textDocument/semanticTokens/range": highlighting.of_range,
+            "textDocument/diagnostic": self._checks.pulled,
+            "workspace/diagnostic": self._checks.pulled_of_workspace,
+            "workspace/willRenameFiles": self._moving.moves,
         }
         notices: dict[str, Callable[[Params], object]] = {
             "initialized": self._watch,
@@ -93,12 +97,16 @@ class Server:
             uri = next(iter(self._unchecked))
             document = self.workspace.open.get(uri)
             published = self._checks.check(document) if document else []
-            if document:
-                self._show_missing_reference(document)
+            absent = self.workspace.missing_reference(document) if document else None
+            if absent:
+                self._show(absent)
             self._unchecked.pop(uri, None)
             for each in published:
                 self._unchecked.pop(each["uri"], None)
                 self._publish(each)
+        if self._is_stale:
+            self._is_stale = False
+            self._request("workspace/diagnostic/refresh", None)
 
     def give_up(self) -> None:
         """Leaves what couldn't be checked, until it changes."""
@@ -109,7 +117,17 @@ class Server:
         return bool(self._unchecked)
 
     def _publish(self, found: Json) -> None:
-        self._send({"jsonrpc": "2.0", "method": "textDocument/publishDiagnostics", "params": found})
+        """Sends what was found in a document. A client that asks for findings is told to ask again."""
+        if self._can.pulls:
+            self._is_stale = True
+        else:
+            self._send({"jsonrpc": "2.0", "method": "textDocument/publishDiagnostics", "params": found})
+
+    def _request(self, method: str, params: object) -> None:
+        """Asks the client for something. Its reply isn't waited for."""
+        self._asked += 1
+        asked: Json = {"jsonrpc": "2.0", "id": f"{method} {self._asked}", "method": method}
+        self._send(asked if params is None else {**asked, "params": params})
 
     def _checks_asked(self, answer: Callable[[Params], object]) -> Callable[[Params], object]:
         """An answer that needs what is found in the documents as they are."""
@@ -121,26 +139,25 @@ class Server:
         return answered
 
     def _initialize(self, params: Params) -> Json:
-        can = params["capabilities"].get("textDocument")
-        self._naming.has_nested_symbols = can.at("documentSymbol", "hierarchicalDocumentSymbolSupport") is True
-        self._naming.has_versions = params.at("capabilities", "workspace", "workspaceEdit", "documentChanges") is True
-        self._completion.has_snippets = can.at("completion", "completionItem", "snippetSupport") is True
-        watching = params.at("capabilities", "workspace", "didChangeWatchedFiles", "dynamicRegistration")
-        self._can_watch = watching is True
-        formats = can.at("hover", "contentFormat")
-        self._hovering.has_markdown = not isinstance(formats, list) or "markdown" in formats
+        self._can = can = Abilities.of(params)
+        self._naming.has_nested_symbols, self._naming.has_versions = can.nested_symbols, can.versions
+        self._completion.has_snippets, self._hovering.has_markdown = can.snippets, can.markdown
+        self._checks.has_related, self._checks.has_links = can.related, can.links
+        self._actions.has_versions, self._actions.can_create = can.versions, can.creates
+        self._moving.can_rename = can.versions and can.renames
+        self.workspace.counts_bytes = can.counts_bytes
         folders = params.at("workspaceFolders")
         uris = [each["uri"].text for each in params["workspaceFolders"].items] if isinstance(folders, list) else []
         root = params.at("rootUri")
         self.workspace.set_roots(uris or ([root] if isinstance(root, str) else []))
-        self._checks.has_related = can.at("publishDiagnostics", "relatedInformation") is True
         self._initial = self._settings_in(own(params.at("initializationOptions")))
         self.workspace.settings = Settings(**self._initial)
-        return {"capabilities": _CAPABILITIES, "serverInfo": {"name": "kozhvadi", "version": __version__}}
+        watch(params.at("processId"), lambda: self.ended())
+        return {"capabilities": can.answered(), "serverInfo": {"name": "kozhvadi", "version": __version__}}
 
     def _watch(self, _: Params) -> None:
         """Asks the client to report changes of files that aren't open."""
-        if self._can_watch:
+        if self._can.watches:
             watched = {"watchers": [{"globPattern": "**/*.ftl"}]}
             asked = {"id": "watch", "method": "workspace/didChangeWatchedFiles", "registerOptions": watched}
             params = {"registrations": [asked]}
@@ -159,11 +176,6 @@ class Server:
             self._shown.add(words)
             shown = {"type": 2, "message": f"kozhvadi: {words}"}
             self._send({"jsonrpc": "2.0", "method": "window/showMessage", "params": shown})
-
-    def _show_missing_reference(self, document: Document) -> None:
-        folder = self.workspace.missing_reference(document)
-        if folder:
-            self._show(f"the reference {self.workspace.settings.reference} isn't in {shown_path(folder)}")
 
     def _configure(self, params: Params) -> None:
         """Takes settings in place of those of the initialization options. If there are none, nothing changes: some
@@ -210,6 +222,22 @@ class Server:
     def _check_all(self) -> None:
         self._unchecked.update(dict.fromkeys(self.workspace.open))
 
+    def _execute(self, params: Params) -> None:
+        """Creates the files that the language of a document lacks: the client gets the edit as a request."""
+        command = params["command"].text
+        if command != CREATE_FILES:
+            raise Refused(INVALID_PARAMS, f"there is no command {command!r}")
+        if not self._can.applies:
+            raise Refused(REQUEST_FAILED, "the client takes no edits that it didn't ask for")
+        given = params["arguments"].items
+        document = self.workspace.open.get(given[0].text) if given else None
+        if document is None:
+            raise Refused(REQUEST_FAILED, "the argument of the command isn't the URI of an open document")
+        files = self._checks.files(document.uri)
+        if files:
+            applied = {"label": "Create missing files", "edit": self._actions.creating(document, files)}
+            self._request("workspace/applyEdit", applied)
+
     def _format(self, params: Params) -> list[Json]:
         """The edit that tidies a document, of the lines that change."""
         document = self.workspace.document(params["textDocument"]["uri"].text)
@@ -245,66 +273,11 @@ def _with_params(handlers: dict[str, Callable[[Params], object]]) -> dict[str, C
     return {name: answering(handler) for name, handler in handlers.items()}
 
 
-class _Inbox:
-    """Messages that are read ahead, so that a request can be cancelled while it waits."""
-
-    def __init__(self, stream: Input) -> None:
-        self._reader = Reader(stream)
-        # The end of the stream is `None`, since a message may be null.
-        self._messages: Queue[tuple[object] | None] = Queue(_AHEAD)
-        self._lock = threading.Lock()
-        self._waiting: set[object] = set()
-        self._cancelled: set[object] = set()
-        threading.Thread(target=self._read, name="reader", daemon=True).start()
-
-    def _read(self) -> None:
-        while True:
-            message: object
-            try:
-                message = self._reader.read()
-            except Damaged as damaged:
-                message = damaged
-            except (EOFError, OSError):
-                self._messages.put(None)
-                return
-            except Exception as error:  # noqa: BLE001 such as want of memory for a long message
-                message = Damaged(f"{type(error).__name__}: {error}")
-            self._note(message)
-            self._messages.put((message,))
-
-    def _note(self, message: object) -> None:
-        if not isinstance(message, dict):
-            return
-        with self._lock:
-            if message.get("method") == "$/cancelRequest":
-                id = _id(message.get("params"))
-                if id in self._waiting:
-                    self._cancelled.add(id)
-            elif "method" in message and _id(message) is not None:
-                self._waiting.add(_id(message))
-
-    def next(self, timeout: float | None) -> tuple[object, bool] | None:
-        """The next message, and whether it is cancelled; nothing at the end. Raises `Empty` after the timeout."""
-        got = self._messages.get_nowait() if timeout == 0 else self._messages.get(timeout=timeout)
-        if got is None:
-            return None
-        id = _id(got[0])
-        with self._lock:
-            self._waiting.discard(id)
-            is_cancelled = id is not None and id in self._cancelled
-            self._cancelled.discard(id)
-        return got[0], is_cancelled
-
-
-def _id(message: object) -> str | int | None:
-    """The id of a request."""
-    id = message.get("id") if isinstance(message, dict) else None
-    return id if isinstance(id, (str, int)) and not isinstance(id, bool) else None
-
-
 def serve(given: Input, output: Output) -> int:
     """Answers the messages of a stream until `exit`, or its end. Returns 0 if it was shut down before that."""
-    server, inbox = Server(writer(output)), _Inbox(given)
+    server, inbox = Server(writer(output)), Inbox(given)
+    server.ended = inbox.end
+    stop_if(lambda: inbox.is_stopped)
     since = time.monotonic()
     try:
         while not server.session.is_over:

@@ -7,6 +7,8 @@ import traceback
 from collections.abc import Callable, Mapping
 from typing import Any
 
+from .._stopping import Stopped
+
 PARSE_ERROR = -32700
 INVALID_REQUEST = -32600
 METHOD_NOT_FOUND = -32601
@@ -71,6 +73,8 @@ class Session:
             result = self._result(method, params)
         except Refused as refused:
             self.refuse(id, refused.code, str(refused))
+        except Stopped:
+            self.refuse(id, CANCELLED, "the request was cancelled")
         except MemoryError as error:
             self.refuse(id, REQUEST_FAILED, str(error) or "out of memory")
         except Exception as error:  # noqa: BLE001 whatever goes wrong, the next request is answered

@@ -5,7 +5,7 @@ from __future__ import annotations
 import json
 import re
 from collections.abc import Callable
-from typing import NamedTuple, NoReturn, Protocol
+from typing import Any, NamedTuple, NoReturn, Protocol
 
 # A message isn't longer. What says it is longer has a wrong length.
 _LONGEST = 64 * 2**20
@@ -21,6 +21,9 @@ _OTHERS = re.compile(rb"(?:[A-Za-z-]+:[^\r\n]*\r?\n)*")
 _REST = re.compile(rb"(?:[A-Za-z-]+:[^\r\n]*\r?\n)*\r?\n")
 
 PARSE_ERROR = -32700
+
+# An object of JSON.
+Json = dict[str, Any]
 
 
 class Input(Protocol):

@@ -45,6 +45,15 @@ class Workspace:
         self._files = Files()
 
     @property
+    def counts_bytes(self) -> bool:
+        """Whether positions count bytes, and not code units of UTF-16."""
+        return self._files.counts_bytes
+
+    @counts_bytes.setter
+    def counts_bytes(self, counts: bool) -> None:
+        self._files.counts_bytes = counts
+
+    @property
     def roots(self) -> list[Path]:
         """The folders of the workspace, the innermost first."""
         return [root.path for root in self._roots]
@@ -81,7 +90,8 @@ class Workspace:
     def take(self, uri: str, text: str, version: int | None = None) -> Document:
         """Takes a document that is opened, or its new text. Returns the document."""
         path = path_of(uri)
-        document = Document(uri, text, version, path=self._in_workspace(path) if path else None)
+        placed = self._in_workspace(path) if path else None
+        document = Document(uri, text, version, path=placed, counts_bytes=self.counts_bytes)
         self.open.pop(uri, None)
         self.open[uri] = document
         self._index()
@@ -131,7 +141,7 @@ class Workspace:
         """Each open document, and each file of the workspace that isn't open. One file is there once: as the document
         that is asked about, or as the one that is open and changed last. Folders that can't be listed are passed over.
         """
-        first = [*([asked] if asked else []), *reversed(self.open.values())]
+        first = [*([asked] if asked else []), *(each for each in self.current() if each is not asked)]
         files = {file.real: file for root in self.roots for file in Listing(root, below=True).files}
         self._files.keep(files)
         loaded = self._loaded(files.values(), first)
@@ -141,6 +151,10 @@ class Workspace:
             inode = inode_of(document.real) if document.real else None
             named.setdefault(inode or document.identity, document)
         return Loaded(list(named.values()), loaded.unread)
+
+    def current(self) -> list[Document]:
+        """The open documents that aren't other versions of a file, the one that changed last first."""
+        return [each for each in reversed(self.open.values()) if not each.is_other_version]
 
     def mark(self, document: Document) -> str:
         """The byte order mark that the file of a document has before the text, if the text hasn't one."""
@@ -154,8 +168,26 @@ class Workspace:
         return shown_path(path.relative_to(root) if root else path)
 
     def locale(self, document: Document) -> str | None:
-        """The language of a document: that of the settings, or else what its name or a folder's is a tag of."""
-        return self.settings.locale or guessed_locale(document.path, self.roots)
+        """The language of a document: that of the settings, or else that of its path."""
+        return self.settings.locale or (self._locale_of(document.path) if document.path else None)
+
+    def _locale_of(self, path: Path) -> str | None:
+        """The language of a path: that of the folder beside the reference, or else what its name, or a folder's, is a
+        tag of."""
+        beside = self._beside_reference(path)
+        return beside.name if beside else guessed_locale(path, self.roots)
+
+    def _folder_of(self, path: Path) -> Path | None:
+        """The folder of a path's language."""
+        return self._beside_reference(path) or language_folder(path, self.roots)
+
+    def _beside_reference(self, path: Path) -> Path | None:
+        """The folder of a language beside that of the reference, or the reference, if a path is in one of them."""
+        reference = self._reference_for(path)
+        if reference is None:
+            return None
+        beside = next((above for above in path.parents if above.parent == reference.parent), None)
+        return beside if beside and is_language(beside.name) else None
 
     def catalog(self, document: Document) -> Loaded:
         """The documents that are loaded with one: those of its language, or of its folder and language."""
@@ -163,7 +195,7 @@ class Workspace:
         if document.path is None or group is None:
             return Loaded([document])
         listing = self._listing(group.folder)
-        files = [file for file in listing.files if guessed_locale(file.path, self.roots) == group.locale]
+        files = [file for file in listing.files if self._locale_of(file.path) == group.locale]
         # Those that were opened, and never saved, aren't among the files.
         files += [
             Listed(each.path, each.real)
@@ -178,49 +210,72 @@ class Workspace:
         """What the documents of one catalog have in common by their paths. Nothing if a document is loaded alone."""
         if document.path is None or self.settings.catalog == "file":
             return None
-        language = language_folder(document.path, self.roots) if self.settings.catalog == "language" else None
-        return Group(language or document.path.parent, guessed_locale(document.path, self.roots))
+        language = self._folder_of(document.path) if self.settings.catalog == "language" else None
+        return Group(language or document.path.parent, self._locale_of(document.path))
 
     def _listing(self, folder: Path) -> Listing:
         """The files of a folder that are loaded together: also those in its folders, if it is that of a language."""
-        is_language = language_folder(folder / "any", self.roots) == folder
-        return Listing(folder, below=self.settings.catalog == "language" and is_language)
+        is_language_folder = self._folder_of(folder / "any") == folder
+        return Listing(folder, below=self.settings.catalog == "language" and is_language_folder)
 
-    def _reference_for(self, document: Document) -> Path | None:
-        """Where the reference of a document is: that of the innermost folder of the workspace that the document is in.
+    def _reference_for(self, path: Path) -> Path | None:
+        """Where the reference of a file is: that of the innermost folder of the workspace that the file is in.
 
-        A document that is in none, but in a workspace, has one only if the setting is a complete path.
+        A file that is in none, but in a workspace, has one only if the setting is a complete path.
         """
-        if not self.settings.reference or document.path is None:
+        if not self.settings.reference:
             return None
-        root = self.root_of(document.path)
+        root = self.root_of(path)
         if self._roots and root is None and not Path(self.settings.reference).is_absolute():
             return None
-        return Path(os.path.normpath((root or document.path.parent) / self.settings.reference))
+        return Path(os.path.normpath((root or path.parent) / self.settings.reference))
 
-    def missing_reference(self, document: Document) -> Path | None:
-        """The folder in which the reference of a document should be, if it isn't there."""
-        reference = self._reference_for(document)
+    def reference_folder(self, path: Path) -> Path | None:
+        """The folder of the reference of a file, if that is one."""
+        reference = self._reference_for(path)
+        return reference if reference and reference.suffix != ".ftl" else None
+
+    def missing_reference(self, document: Document) -> str | None:
+        """Says that the reference of a document isn't there."""
+        reference = self._reference_for(document.path) if document.path else None
         if reference is None or document.path is None or os.path.exists(reference):
             return None
-        return self.root_of(document.path) or document.path.parent
+        folder = self.root_of(document.path) or document.path.parent
+        return f"the reference {self.settings.reference} isn't in {shown_path(folder)}"
 
     def is_of_reference(self, document: Document) -> bool:
         """Whether a document is one of those that others are compared with."""
-        reference = self._reference_for(document)
+        reference = self._reference_for(document.path) if document.path else None
         if reference is None or document.path is None or document.real is None:
             return False
         return document.path.is_relative_to(reference) or document.real.is_relative_to(real_path(reference))
 
     def _compared_with(self, document: Document) -> tuple[Path, Path] | None:
         """The reference of a document, and the path that its file has there."""
-        reference = self._reference_for(document)
+        reference = self._reference_for(document.path) if document.path else None
         if reference is None or document.path is None or self.is_of_reference(document):
             return None
-        path = document.path
+        folder = self._translation_folder(document.path, reference)
+        return reference, reference if reference.suffix == ".ftl" else reference / document.path.relative_to(folder)
+
+    def _translation_folder(self, path: Path, reference: Path) -> Path:
+        """The folder of a translation whose files have the paths that those of the reference have there."""
         beside = next((above for above in path.parents if above.parent == reference.parent), path.parent)
-        folder = language_folder(path, self.roots) or beside
-        return reference, reference if reference.suffix == ".ftl" else reference / path.relative_to(folder)
+        return self._folder_of(path) or beside
+
+    def translation_path(self, document: Document, original: Document) -> Path | None:
+        """Where the translation of a file of the reference belongs, in the language of a document."""
+        compared = self._compared_with(document)
+        if compared is None or document.path is None or original.path is None:
+            return None
+        reference, _ = compared
+        if reference.suffix == ".ftl" or not original.path.is_relative_to(reference):
+            return None
+        return self._translation_folder(document.path, reference) / original.path.relative_to(reference)
+
+    def is_there(self, path: Path) -> bool:
+        """Whether there is a file at a path, or a document that is open in the editor and not saved yet."""
+        return path.exists() or real_path(path) in self._open_at
 
     def reference(self, document: Document) -> Loaded:
         """The documents of the source language that a document is compared with."""
@@ -249,23 +304,26 @@ def language_folder(path: Path, roots: list[Path]) -> Path | None:
     """The nearest folder above a file, in the workspace, whose name is the tag of a language."""
     root = next((root for root in reversed(roots) if root in path.parents), path.parent)
     for folder in path.parents:
-        if _is_tag(folder.name, _TAG) or _is_tag(folder.name, _IN_SMALL_LETTERS):
+        if is_language(folder.name):
             return folder
         if folder == root:
             break
     return None
 
 
-def guessed_locale(path: Path | None, roots: list[Path]) -> str | None:
+def guessed_locale(path: Path, roots: list[Path]) -> str | None:
     """The language that the name of a file is a tag of, as `de.ftl` or `main.de.ftl`, or else that of a folder."""
-    if path is None:
-        return None
     stem = path.name.removesuffix(".ftl")
     for name in (stem, stem.rpartition(".")[2]):
         if _is_tag(name, _TAG):
             return name
     folder = language_folder(path, roots)
     return folder.name if folder else None
+
+
+def is_language(name: str) -> bool:
+    """Whether the name of a folder is the tag of a language."""
+    return _is_tag(name, _TAG) or _is_tag(name, _IN_SMALL_LETTERS)
 
 
 def _is_tag(name: str, pattern: re.Pattern[str]) -> bool:
