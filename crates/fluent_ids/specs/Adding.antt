@@ -34,6 +34,10 @@ module _ (F : Type 0) where
   abbrev pub PutsLast : FluentIds F → FluentIds F → Resource (Bor (List ℕ)) → Type 0
   PutsLast old new r = ids_view F new ≡ with_ids true (ids_view F old) (entries_by_id (entries_in r))
 
+  -- a function was put in, if its id stood for nothing
+  abbrev pub PutsFunction : FluentIds F → FluentIds F → List ℕ × Meaning F → Type 0
+  PutsFunction old new pair = ids_view F new ≡ with_id false (ids_view F old) pair
+
   -- if memory ran out, nothing changed
   abbrev pub KeepsAtMemory : Result (Unit {0}) AddResourceError → FluentIds F → FluentIds F → Type 0
   KeepsAtMemory (Err resource.Memory) old new = ids_view F new ≡ ids_view F old
