@@ -29,6 +29,8 @@ is_text out.terminal = true
 is_text out.lines = false
 is_text out.json = false
 is_text out.github = false
+is_text out.sarif = false
+is_text out.gitlab = false
 
 -- Text has the counts of a file only if messages of it are missing, unless all are asked for.
 abbrev pub shown_counts : Format → Bool → List Summary → List Summary

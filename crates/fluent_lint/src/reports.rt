@@ -172,6 +172,6 @@ fn push_ending(
             push_totals(text, output.notes, files, found)?;
             push_taken(text, entries, found)
         }
-        Format::Line | Format::Json | Format::Github => Ok(()),
+        Format::Line | Format::Json | Format::Github | Format::Sarif | Format::Gitlab => Ok(()),
     }
 }

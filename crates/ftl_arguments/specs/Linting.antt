@@ -6,7 +6,7 @@ use Rattle.std.specs.Str.{bytes_eq}
 use Rattle.clap.specs.Words.{Row, Text, first_of}
 use Rattle.fluent_grammar.specs.Words.{begins, is_callee_byte, is_capital}
 use Rattle.ftl_arguments.specs.Found.{is_given, values_in, locale_in}
-use Rattle.lint_findings.specs.Output.{Format, text, terminal, lines, json, github}
+use Rattle.lint_findings.specs.Output.{Format, text, terminal, lines, json, github, sarif, gitlab}
 
 -- report what is found in the catalog that the sources in these files, and below these folders, are
 pub record Lint : Type 0 where
@@ -71,6 +71,8 @@ format_named name =
     else if bytes_eq name (codes "line") then Some lines
     else if bytes_eq name (codes "json") then Some json
     else if bytes_eq name (codes "github") then Some github
+    else if bytes_eq name (codes "sarif") then Some sarif
+    else if bytes_eq name (codes "gitlab") then Some gitlab
     else None
 
 -- the value of `--format`
@@ -95,6 +97,8 @@ on_terminal terminal = terminal
 on_terminal lines = lines
 on_terminal json = json
 on_terminal github = github
+on_terminal sarif = sarif
+on_terminal gitlab = gitlab
 
 abbrev pub format_by : Format → Bool → Format
 format_by format colours = if colours then on_terminal format else format

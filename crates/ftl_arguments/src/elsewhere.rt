@@ -31,6 +31,8 @@ fn option_of_lint(word: &str) -> Option<&'static str> {
     match word {
         "--json" => Some("did you mean '--format json'?"),
         "--github" => Some("did you mean '--format github'?"),
+        "--sarif" => Some("did you mean '--format sarif'?"),
+        "--gitlab" => Some("did you mean '--format gitlab'?"),
         "--output-format" | "--output" | "-o" => Some("did you mean '--format'?"),
         "-q" | "--quiet" | "--compact" => Some("did you mean '--format line'?"),
         "--no-color" | "--no-colors" => Some("did you mean '--color never'?"),

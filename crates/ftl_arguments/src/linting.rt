@@ -246,6 +246,8 @@ pub(crate) fn format_named(name: &str) -> Option<ReportFormat>
         "line" => Some(ReportFormat::Line),
         "json" => Some(ReportFormat::Json),
         "github" => Some(ReportFormat::Github),
+        "sarif" => Some(ReportFormat::Sarif),
+        "gitlab" => Some(ReportFormat::Gitlab),
         _ => None,
     }
 }

@@ -322,7 +322,7 @@ fn report_format<'a>(alloc: Global) -> Arg<'a>
     ensures { IsLocal (default_rule (codes "format") (codes "text")) result }
 {
     option_or(alloc, "format", "FORMAT", "text").help(
-        "Write findings as text, line, json or github",
+        "Write findings as text, line, json, github, sarif or gitlab",
     )
 }
 

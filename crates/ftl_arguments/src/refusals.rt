@@ -58,7 +58,7 @@ fn refused_way<'words>(found: &ArgMatches<'words>) -> Option<Refused<'words>> {
     if format_named(format).is_none() {
         return Some(Refused::Value {
             option: "--format",
-            choices: "text, line, json or github",
+            choices: "text, line, json, github, sarif or gitlab",
             value: format,
         });
     }

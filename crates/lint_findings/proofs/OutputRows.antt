@@ -1,13 +1,16 @@
 -- Worked rows: the other formats, and summaries.
 use Rattle.std.specs.Prelude.{◌≡◌, [], ◌∷◌, ◌++◌, List, true, false, codes}
 use Rattle.std.proofs.Common.{refl}
+use Rattle.percent_encoding.specs.Percent.{percent_encode_byte}
 use Rattle.serde_json.proofs.OnLiterals.{serde_json_on_literals}
+use Rattle.std.specs.List.{flat_map}
 use Rattle.fluent_grammar.specs.Words.{Text}
+use Rattle.lint_findings.specs.SarifReport.{uri_byte}
 use Rattle.lint_findings.specs.Files.{File}
 use Rattle.lint_findings.specs.Findings.{FileFinding, findings, findings_with_reference}
 use Rattle.lint_findings.specs.Report.{shown, has_failed}
 use Rattle.lint_findings.specs.Summary.{Summary, summaries, summary_text, summary_json}
-use Rattle.lint_findings.specs.Output.{Format, terminal, lines, json, github, output}
+use Rattle.lint_findings.specs.Output.{Format, terminal, lines, json, github, sarif, gitlab, output}
 use Rattle.lint_findings.proofs.Computing.{computing_findings, file, one, options_with}
 
 -- What is written of files in a format.
@@ -46,6 +49,25 @@ WritesWithReference references files format written = output format one (shown f
 -- Their summaries.
 Summarizes : List File → List File → (List Summary → Text) → Text → Type 0
 Summarizes references files form written = form (summaries references files (with_a_reference references files)) ≡ written
+
+a_uri : flat_map uri_byte (codes "l 1/" ++ (195 ∷ 188 ∷ codes ".ftl")) ≡ codes "l%201/%C3%BC.ftl"
+unfolding percent_encode_byte
+a_uri = refl
+
+in_sarif : Writes sarif (file (codes "l 1/" ++ (195 ∷ 188 ∷ codes ".ftl")) (codes "a = { -b }\n    { F() }\n") ∷ [])
+    (codes "{\"$schema\":\"https://json.schemastore.org/sarif-2.1.0.json\",\"version\":\"2.1.0\",\"runs\":[{\"tool\":{\"driver\":{\"name\":\"ftl\"}},\"columnKind\":\"unicodeCodePoints\",\"results\":[\n{\"level\":\"error\",\"locations\":[{\"physicalLocation\":{\"artifactLocation\":{\"uri\":\"l%201/%C3%BC.ftl\"},\"region\":{\"startColumn\":7,\"startLine\":1}}}],\"message\":{\"text\":\"a: there is no term `-b`\"},\"ruleId\":\"unknown-term\"},\n{\"level\":\"warning\",\"locations\":[{\"physicalLocation\":{\"artifactLocation\":{\"uri\":\"l%201/%C3%BC.ftl\"},\"region\":{\"startColumn\":7,\"startLine\":2}}}],\"message\":{\"text\":\"a: there is no function `F`\"},\"ruleId\":\"unknown-function\"}\n]}]}\n")
+unfolding computing_findings serde_json_on_literals percent_encode_byte file Writes
+in_sarif = refl
+
+no_finding_in_sarif : Writes sarif (file (codes "a.ftl") (codes "a = b\n") ∷ [])
+    (codes "{\"$schema\":\"https://json.schemastore.org/sarif-2.1.0.json\",\"version\":\"2.1.0\",\"runs\":[{\"tool\":{\"driver\":{\"name\":\"ftl\"}},\"columnKind\":\"unicodeCodePoints\",\"results\":[\n]}]}\n")
+unfolding computing_findings serde_json_on_literals file Writes
+no_finding_in_sarif = refl
+
+for_gitlab : Writes gitlab (file (codes "a.ftl") (codes "key1=Value 1\ng@Rb@ge\nkey2 = { F() }\n") ∷ [])
+    (codes "[\n{\"check_name\":\"syntax\",\"description\":\"g: expected `=` after `g`, found `@` (a line that continues a text begins with at least one space)\",\"fingerprint\":\"syntax:a.ftl:g:expected `=` after `g`, found `@`\",\"location\":{\"lines\":{\"begin\":2},\"path\":\"a.ftl\"},\"severity\":\"major\"},\n{\"check_name\":\"unknown-function\",\"description\":\"key2: there is no function `F`\",\"fingerprint\":\"unknown-function:a.ftl:key2:there is no function `F`\",\"location\":{\"lines\":{\"begin\":3},\"path\":\"a.ftl\"},\"severity\":\"minor\"}\n]\n")
+unfolding computing_findings serde_json_on_literals file Writes
+for_gitlab = refl
 
 in_json_with_a_reference : WritesWithReference (file (codes "en.ftl") (codes "hi = Hello, { $name }!\nbye = Bye, { $name }!\n") ∷ []) (file (codes "de.ftl") (codes "hi = Hallo, { $nmae }!\nbye = { hi }\n") ∷ []) json
     (codes "{\"code\":\"unknown-variable\",\"column\":15,\"entry\":\"hi\",\"file\":\"de.ftl\",\"hint\":\"did you mean `$name`?\",\"line\":1,\"offset\":14,\"severity\":\"error\",\"text\":\"the reference has no variable `$nmae`\"}\n{\"code\":\"unknown-variable\",\"column\":1,\"entry\":\"bye\",\"file\":\"de.ftl\",\"hint\":\"did you mean `$name`?\",\"line\":2,\"offset\":23,\"severity\":\"error\",\"text\":\"the reference has no variable `$nmae`\"}\n")

@@ -26,6 +26,9 @@ pub mod ShownLine
 pub mod Report
 pub mod Colours
 pub mod JsonReport
+pub mod Listed
+pub mod SarifReport
+pub mod GitlabReport
 pub mod GithubReport
 pub mod Summary
 pub mod Output

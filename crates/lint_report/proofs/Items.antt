@@ -8,6 +8,9 @@ use Rattle.lint_findings.specs.Findings.{FileFinding}
 use Rattle.lint_findings.specs.Output.{output}
 use Rattle.lint_findings.specs.Report.{is_shown, is_failure, has_failed, shown, report_lines}
 use Rattle.lint_findings.specs.GithubReport.{report_github}
+use Rattle.lint_findings.specs.GitlabReport.{gitlab_issue}
+use Rattle.lint_findings.specs.Listed.{listed_item}
+use Rattle.lint_findings.specs.SarifReport.{sarif_result}
 use Rattle.lint_findings.specs.Summary.{Summary}
 use Rattle.lint_finding.specs.View.{file_view, file_findings_view, finding_view, findings_view, severity_view}
 use Rattle.lint_finding.specs.declared.records.FileFindings.{FileFindings}
@@ -15,8 +18,8 @@ use Rattle.lint_finding.specs.declared.records.Finding.{Finding}
 use Rattle.lint_finding.specs.declared.records.File.{File}
 use Rattle.lint_report.specs.View.{in_file}
 use Rattle.lint_report.specs.declared.reports.Format.{Format}
-use Rattle.lint_report.specs.declared.reports.Format.TheVariants.{Text as AsText, Line, Terminal, Json, Github}
-use Rattle.lint_report.specs.Formats.{finding_output, format_view, shown_piece, summaries_output}
+use Rattle.lint_report.specs.declared.reports.Format.TheVariants.{Text as AsText, Line, Terminal, Json, Github, Sarif, Gitlab}
+use Rattle.lint_report.specs.Formats.{document_output, finding_output, format_view, shown_piece, summaries_output}
 use Rattle.lint_report.specs.View.{shown_width}
 
 -- With the pieces of what is left, the pieces of all follow the old text.
@@ -60,18 +63,20 @@ of_shown format notes (f ∷ fs) =
     ]
 
 of_format : (format : Format) (fs : List FileFinding) (ss : List Summary) →
-    flat_map (finding_output format) fs ++ summaries_output format ss ≡ output (format_view format) shown_width fs ss
+    document_output format (flat_map (finding_output format) fs ++ summaries_output format ss) ≡ output (format_view format) shown_width fs ss
 of_format AsText fs ss = refl
 of_format Terminal fs ss = refl
 of_format Line fs ss = append-nil (report_lines fs)
 of_format Json fs ss = refl
 of_format Github fs ss = append-nil (report_github fs)
+of_format Sarif fs ss = ap (document_output Sarif) (append-nil (flat_map (λ f. listed_item (sarif_result f)) fs))
+of_format Gitlab fs ss = ap (document_output Gitlab) (append-nil (flat_map (λ f. listed_item (gitlab_issue f)) fs))
 
 pub output_is : (format : Format) (notes : Bool) (fs : List FileFindings) (ss : List Summary) →
-    flat_map (λ f. flat_map (shown_piece format notes) (file_findings_view f)) fs ++ summaries_output format ss
+    document_output format (flat_map (λ f. flat_map (shown_piece format notes) (file_findings_view f)) fs ++ summaries_output format ss)
     ≡ output (format_view format) shown_width (shown notes (findings_view fs)) ss
 output_is format notes fs ss =
-    ap (λ t. t ++ summaries_output format ss) (of_files (shown_piece format notes) fs ∙ of_shown format notes (findings_view fs))
+    ap (λ t. document_output format (t ++ summaries_output format ss)) (of_files (shown_piece format notes) fs ∙ of_shown format notes (findings_view fs))
     ∙ of_format format (shown notes (findings_view fs)) ss
 
 -- ---- findings that fail

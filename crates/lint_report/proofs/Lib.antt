@@ -6,3 +6,5 @@ pub mod Escaped
 pub mod Items
 pub mod Counting
 pub mod Lists
+pub mod Uris
+pub mod Commas

@@ -1,5 +1,5 @@
 -- Formats, and what one finding is in them.
-use Rattle.std.specs.Prelude.{Bool, List, [], map, if◌then◌else◌}
+use Rattle.std.specs.Prelude.{Bool, List, [], ◌++◌, map, if◌then◌else◌, codes}
 use Rattle.std.specs.List.{flat_map}
 use Rattle.fluent_grammar.specs.Words.{Text}
 use Rattle.lint_findings.specs.Findings.{FileFinding}
@@ -9,6 +9,9 @@ use Rattle.lint_findings.specs.Report.{finding_line, finding_text, is_shown, sho
 use Rattle.lint_findings.specs.Summary.{Summary, summary_json, summary_text}
 use Rattle.lint_findings.specs.JsonReport.{json_line, finding_data}
 use Rattle.lint_findings.specs.GithubReport.{finding_command}
+use Rattle.lint_findings.specs.GitlabReport.{gitlab_issue}
+use Rattle.lint_findings.specs.Listed.{after_comma, listed_item}
+use Rattle.lint_findings.specs.SarifReport.{sarif_head, sarif_result, sarif_tail}
 use Rattle.lint_finding.specs.View.{file_findings_view, findings_view}
 use Rattle.lint_finding.specs.declared.records.FileFindings.{FileFindings}
 use Rattle.lint_report.specs.View.{shown_width}
@@ -23,6 +26,8 @@ format_view format.Terminal = out.terminal
 format_view format.Line = out.lines
 format_view format.Json = out.json
 format_view format.Github = out.github
+format_view format.Sarif = out.sarif
+format_view format.Gitlab = out.gitlab
 
 abbrev pub finding_output : Format → FileFinding → Text
 finding_output format.Text f = finding_text shown_width f
@@ -30,6 +35,8 @@ finding_output format.Terminal f = coloured_text shown_width f
 finding_output format.Line f = finding_line f
 finding_output format.Json f = json_line (finding_data f)
 finding_output format.Github f = finding_command f
+finding_output format.Sarif f = listed_item (sarif_result f)
+finding_output format.Gitlab f = listed_item (gitlab_issue f)
 
 -- a finding, unless it is a note and notes are left out
 abbrev pub shown_piece : Format → Bool → FileFinding → Text
@@ -42,6 +49,18 @@ summaries_output format.Terminal ss = summary_text ss
 summaries_output format.Line ss = []
 summaries_output format.Json ss = summary_json ss
 summaries_output format.Github ss = []
+summaries_output format.Sarif ss = []
+summaries_output format.Gitlab ss = []
+
+-- a report by what was written of findings and summaries
+abbrev pub document_output : Format → Text → Text
+document_output format.Text written = written
+document_output format.Terminal written = written
+document_output format.Line written = written
+document_output format.Json written = written
+document_output format.Github written = written
+document_output format.Sarif written = sarif_head ++ (after_comma written ++ sarif_tail)
+document_output format.Gitlab written = codes "[" ++ (after_comma written ++ codes "\n]\n")
 
 -- the findings of a file
 abbrev pub file_output : Format → Bool → FileFindings → Text

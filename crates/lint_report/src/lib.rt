@@ -1,5 +1,5 @@
-//! Findings as `ftl lint` writes them: for each a text for people, a line, an object of JSON, or a
-//! command of a GitHub workflow.
+//! Findings as `ftl lint` writes them: for each a text for people, a line, an object of JSON, a
+//! command of a GitHub workflow, a result of SARIF, or an issue of a report for GitLab.
 //!
 //! [`push_finding_text`] appends a finding for people:
 //! `FILE:LINE:COLUMN: SEVERITY: ENTRY: TEXT [CODE]`, the line that it is on with a caret below it,
@@ -16,10 +16,13 @@ mod commands;
 mod counts;
 mod excerpts;
 mod files;
+mod gitlab;
 mod json;
 mod lines;
+mod listed;
 mod masked;
 mod reports;
+mod sarif;
 mod shown;
 mod summary;
 

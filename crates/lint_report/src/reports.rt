@@ -7,10 +7,13 @@ ghost use Rattle.lint_finding.specs.View.{findings_view, severity_view};
 ghost use Rattle.lint_findings.specs.Report.{has_failed as fails, is_failure as severity_fails, is_shown as severity_is_shown};
 ghost use Rattle.lint_report.specs.View.{IsAt, IsOnLine, in_file};
 ghost use Rattle.lint_report.specs.ReportView.{summary_view};
-ghost use Rattle.lint_report.specs.Formats.{file_output, finding_output, report_output, shown_piece, summaries_output};
+ghost use Rattle.lint_report.specs.Formats.{document_output, file_output, finding_output, report_output, shown_piece, summaries_output};
 
 use crate::commands::push_command;
+use crate::gitlab::push_issue;
 use crate::json::push_json_line;
+use crate::listed::document;
+use crate::sarif::{self, push_result};
 use crate::summary::{Summary, push_json_summaries, push_summary_lines};
 use crate::{push_finding_line, push_finding_text};
 use lint_finding::{File, FileFindings, Finding, Severity, SourcePosition};
@@ -30,6 +33,10 @@ pub enum Format {
     Json,
     /// A command for each finding, with which a workflow of GitHub shows it at its line.
     Github,
+    /// A document of SARIF 2.1.0, with a result for each finding on a line of its own.
+    Sarif,
+    /// A list of JSON for GitLab, with an issue for each finding on a line of its own.
+    Gitlab,
 }
 
 /// All findings in this format, and as text and in JSON the summaries after them. Notes are left
@@ -52,7 +59,7 @@ pub fn report(
         push_file_findings(&mut text, alloc, format, notes, file)?;
     }
     push_summaries(&mut text, alloc, format, summaries)?;
-    Ok(text)
+    in_document(alloc, format, text)
 }
 
 /// Appends the summaries, if this format has them.
@@ -67,7 +74,20 @@ fn push_summaries(
     match format {
         Format::Text | Format::Terminal => push_summary_lines(text, summaries),
         Format::Json => push_json_summaries(text, alloc, summaries),
-        Format::Line | Format::Github => Ok(()),
+        Format::Line | Format::Github | Format::Sarif | Format::Gitlab => Ok(()),
+    }
+}
+
+/// The report: what was written of findings and summaries, in a document if this format has one.
+fn in_document(alloc: Global, format: Format, written: String) -> Result<String, AllocError>
+    ensures { IfOk result (λ text. string_bytes text ≡ document_output format (string_bytes written)) }
+{
+    match format {
+        Format::Text | Format::Terminal | Format::Line | Format::Json | Format::Github => Ok(
+            written,
+        ),
+        Format::Sarif => document(alloc, sarif::HEAD, &written, sarif::TAIL),
+        Format::Gitlab => document(alloc, "[", &written, "\n]\n"),
     }
 }
 
@@ -130,6 +150,8 @@ fn push_finding(
         Format::Line => push_finding_line(text, file, finding, place, false),
         Format::Json => push_json_line(text, alloc, file, finding, place),
         Format::Github => push_command(text, file, finding, place),
+        Format::Sarif => push_result(text, alloc, file, finding, place),
+        Format::Gitlab => push_issue(text, alloc, file, finding, place),
     }
 }
 
