@@ -12,7 +12,8 @@ for "after"; each call in a shell block of a page prints what follows it there; 
 under `# Errors`; no clause is longer than 200 characters, and at most 33 are longer than 120; each file that names the
 version names the same one, and each that lists the codes of findings lists the same ones; each place that names the
 version of CLDR names that of tools/cldr.txt; crates.txt is read alike in Python and in shell; the library for C and the
-packages for Rust and Python have the numbers, structs and calls of its header; the counts of crates and functions in the
+packages for Rust and Python have the numbers, structs and calls of its header; the library and the package for Python know
+the same of the functions that come with the library; the counts of crates and functions in the
 pages on proofs are those of the sources; the figures that a file of results has are those of the pages; and each law,
 function and clause that a row of `proved.md` names is in the row's crates.
 
@@ -32,7 +33,7 @@ from pathlib import Path
 
 sys.path.insert(0, str(Path(__file__).resolve().parents[1]))
 
-from lib import c_interface, cldr
+from lib import c_interface, cldr, function_table
 from lib.crates import below, uses
 
 
@@ -494,6 +495,11 @@ def other_interfaces():
     yield from c_interface.differences(ROOT)
 
 
+def other_functions():
+    """What the library and the package for Python don't know alike of the functions that come with the library."""
+    yield from function_table.differences(ROOT)
+
+
 def wrong_counts():
     """Counts in the pages that the sources don't have."""
     named = uses(ROOT)
@@ -559,7 +565,7 @@ def checks():
     if not ARGUMENTS.calls:
         yield from (wrong_quotes, types_without_examples, wrong_links, wide_prose, wrong_words, wrong_comments,
                     silent_calls, long_clauses, other_versions, other_codes, other_cldr, other_readers, other_interfaces,
-                    wrong_counts, wrong_figures, wrong_rows)
+                    other_functions, wrong_counts, wrong_figures, wrong_rows)
     if ARGUMENTS.sources:
         return
     if PROGRAM.exists():
