@@ -8,12 +8,13 @@ another crate that the gate proves or tries, unless its fence is `no_run`: such 
 type that programs use has a block. Each link leads to a file and a heading that are there, and so does each path in
 `crates` that a page names; each page that a comment names is there; no line of prose in a page is wider than 120
 columns; no page has words that docs/style.md leaves out, and no comment of the code, its definitions and its proofs has
-"behind" for "after"; no comment of code is wider than 100 columns, and no doc comment begins with "The same"; each call
-in a shell block of a page prints what follows it there; each public call that can fail says how, under `# Errors`; no
-clause is longer than 200 characters, and at most 33 are longer than 120; each file that names the version names the
-same one, and each that lists the codes of findings lists the same ones; each place that names the version of CLDR names
-that of tools/cldr.txt; crates.txt is read alike in Python and in shell; the library for C and the packages for Rust and
-Python have the numbers, structs and calls of its header; the counts of crates and functions in the pages on proofs are
+"behind" for "after"; no comment of code is wider than 100 columns; the README has at most 110 lines, 25 links and 15
+words a sentence; each call in a shell block of a page prints what follows it there; each public call that can fail says
+how, under `# Errors`; no clause is longer than 200 characters, and at most 33 are longer than 120; each file that names
+the version names the same one, and each that lists the codes of findings lists the same ones; each place that names the
+version of CLDR names that of tools/cldr.txt; crates.txt is read alike in Python and in shell; the library for C and the
+packages for Rust and Python have the numbers, structs and calls of its header; the library and the package for Python
+know the same of the functions that come with the library; the counts of crates and functions in the pages on proofs are
 those of the sources; the figures that a file of results has are those of the pages; and each law, function and clause
 that a row of `proved.md` names is in the row's crates.
 
@@ -34,7 +35,7 @@ from pathlib import Path
 sys.path.insert(0, str(Path(__file__).resolve().parents[1]))
 
 import reflow
-from lib import c_interface, cldr
+from lib import c_interface, cldr, function_table
 from lib.crates import below, uses
 
 
@@ -525,6 +526,11 @@ def other_interfaces():
     yield from c_interface.differences(ROOT)
 
 
+def other_functions():
+    """What the library and the package for Python don't know alike of the functions that come with the library."""
+    yield from function_table.differences(ROOT)
+
+
 def wrong_counts():
     """Counts in the pages that the sources don't have."""
     named = uses(ROOT)
@@ -591,7 +597,7 @@ def checks():
         yield from (wrong_quotes, types_without_examples, wrong_links, wide_prose, long_readme, wrong_words,
                     wrong_comments, wide_comments,
                     silent_calls, long_clauses, other_versions, other_codes, other_cldr, other_readers, other_interfaces,
-                    wrong_counts, wrong_figures, wrong_rows)
+                    other_functions, wrong_counts, wrong_figures, wrong_rows)
     if ARGUMENTS.sources:
         return
     if PROGRAM.exists():

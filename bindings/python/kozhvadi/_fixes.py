@@ -7,6 +7,7 @@ from collections.abc import Iterable
 from difflib import get_close_matches
 from typing import NamedTuple
 
+from ._builtins import BUILTINS
 from ._linting import Finding
 from ._places import Places
 from ._samples import Catalog
@@ -21,20 +22,6 @@ _MISSING = ("unknown-message", "unknown-term", "unknown-attribute", "unknown-var
 
 # How much of a name a near one has.
 _NEAR = 0.7
-
-# The options of NUMBER that choose variants or digits, and values that they take.
-NUMBER_OPTIONS = {
-    "type": ['"ordinal"', '"cardinal"'],
-    "minimumFractionDigits": ["2"],
-    "maximumFractionDigits": ["0"],
-    "minimumIntegerDigits": ["2"],
-    "minimumSignificantDigits": ["2"],
-    "maximumSignificantDigits": ["3"],
-    "useGrouping": ['"true"', '"false"'],
-    "style": ['"decimal"', '"percent"', '"currency"'],
-    "currency": ['"EUR"'],
-    "currencyDisplay": ['"symbol"', '"code"', '"name"'],
-}
 
 
 class Fix(NamedTuple):
@@ -93,7 +80,7 @@ def fixes(
 def _known(finding: Finding, written: str, catalog: Catalog, reference: Catalog, functions: Iterable[str]) -> list[str]:
     """The names that may have been meant."""
     if finding.code == "unknown-function":
-        return ["NUMBER", *functions]
+        return [*BUILTINS, *functions]
     if finding.code == "unknown-variable":
         return [f"${name}" for name in reference_variables(finding.entry or "", reference)]
     keys = [key for key in catalog.entries if key.startswith("-") == written.startswith("-")]

@@ -10,6 +10,7 @@ from decimal import Decimal
 from typing import Any, Union
 
 from . import _library as c
+from ._builtins import BUILTINS
 from ._errors import ResolverError, raised_by
 from ._values import NO_ARGUMENTS, Formatter, encoded, kind_and_text
 
@@ -52,8 +53,8 @@ def functions_of(given: Functions | None) -> dict[str, Callable[..., Any]]:
 
 def never_called(name: str) -> str | None:
     """Why no message calls a function of this name, or `None` if messages can."""
-    if name == "NUMBER":
-        return "the function NUMBER comes with the library, so another of this name is never called"
+    if name in BUILTINS:
+        return f"the function {name} comes with the library, so another of this name is never called"
     if not _NAME.fullmatch(name):
         return f"no message can call the function {name!r}: a name has capital letters, and then digits, `_` and `-` too"
     return None

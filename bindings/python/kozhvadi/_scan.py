@@ -11,6 +11,7 @@ import re
 from dataclasses import dataclass, field
 from typing import NamedTuple
 
+from ._builtins import BUILTINS
 from ._occurrences import Occurrence, Symbol
 from ._stopping import go_on
 
@@ -143,6 +144,12 @@ class Inside(NamedTuple):
     entry: str = ""
     callee: Symbol | None = None
     is_full: bool = False
+
+
+def _is_of_number(callee: Symbol | None) -> bool:
+    """Whether a call is one of a function of the library that returns a number that it is given."""
+    known = BUILTINS.get(callee.name) if callee and callee.kind == "function" else None
+    return known is not None and known.is_of_number
 
 
 def inside(source: bytes, offset: int) -> Inside:
@@ -350,7 +357,7 @@ class Scan:
         """The number that a call makes of a variable chooses variants, too."""
         call = self.open.pop()
         top = self.open[-1]
-        if call.callee == Symbol("function", "NUMBER") and call.select.variable:
+        if _is_of_number(call.callee) and call.select.variable:
             self.part.numbers.add(call.select.variable)
             is_ordinal = bool(_ORDINAL.search(self.source, call.start, self.at))
             top.select.variable, top.select.is_number = call.select.variable, True

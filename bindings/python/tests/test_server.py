@@ -290,6 +290,16 @@ class WorkspaceTest(WorkspaceCase):
         self.assertIn("one: 1, few: 2, many: 5, other: 1.5", told)
         self.assertIsNone(self.client.ask("textDocument/hover", **at(uri, POLISH, "Jedna")))
 
+    def test_hover_shows_what_a_function_takes(self):
+        self.client.start()
+        source = "a = { NUMBER($n, type: \"ordinal\") } { DATE($n) }\n"
+        uri = self.client.open("file:///a.ftl", source)
+        told = self.client.ask("textDocument/hover", **at(uri, source, "NUMBER"))["contents"]["value"]
+        self.assertIn("`NUMBER` takes a number, and these options", told)
+        self.assertIn('\ntype: "ordinal" or "cardinal"\nminimumFractionDigits: a number\n', told)
+        self.assertIn("\ncurrency: any text\n", told)
+        self.assertIsNone(self.client.ask("textDocument/hover", **at(uri, source, "DATE")))
+
     def test_hover_shows_comments_as_they_are(self):
         source = "# 1. See [a](http://b) **c** <img> &amp; `d`\n# - e_f\n# 2. g\na = A\n"
         self.client.start()

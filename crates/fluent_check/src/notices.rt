@@ -7,7 +7,7 @@ ghost use Rattle.fluent_meaning.specs.Ids.{notices, number_pair, with_ids};
 
 use fluent_ast::Resource;
 use fluent_errors::FluentError;
-use fluent_ids::{AddFunctionError, AddResourceError, FluentIds};
+use fluent_ids::{AddResourceError, FluentIds};
 use fluent_value::NoFunction;
 use std::alloc::{AllocError, Global};
 
@@ -25,11 +25,7 @@ impl<'r, 's> NoticeList<'r, 's> {
             × (notices_in added ≡ [])) }
     {
         let mut ids = FluentIds::new(alloc);
-        match ids.add_builtins() {
-            Ok(()) => {}
-            Err(AddFunctionError::Overriding(_)) => {}
-            Err(AddFunctionError::Memory) => return Err(AllocError),
-        }
+        ids.add_builtins_silently()?;
         Ok(NoticeList {
             ids,
             notices: Vec::new(alloc),

@@ -89,9 +89,14 @@ unfolding computing_findings file Reports
 options_of_number = refl
 
 options_that_number_lacks : Reports [] (file (codes "a.ftl") (codes "a = { NUMBER($n, digits: 2) }\nb = { NUMBER($n, style: \"percnt\") }\nc = { NUMBER($n, minimumFractionDigits: \"2\") }\nd = { NUMBER($n, style: 1) }\n") ∷ [])
-    (codes "a.ftl:1:7: warning: a: `NUMBER` has no option `digits` [unknown-option]\n1 | a = { NUMBER($n, digits: 2) }\n  |       ^\na.ftl:2:7: warning: b: the option `style` has no value `percnt` [unknown-option]\n2 | b = { NUMBER($n, style: \"percnt\") }\n  |       ^\na.ftl:3:7: warning: c: the option `minimumFractionDigits` takes a number, without quotes [unknown-option]\n3 | c = { NUMBER($n, minimumFractionDigits: \"2\") }\n  |       ^\na.ftl:4:7: warning: d: the option `style` takes a text, in quotes [unknown-option]\n4 | d = { NUMBER($n, style: 1) }\n  |       ^\n")
+    (codes "a.ftl:1:7: warning: a: `NUMBER` has no option `digits` [unknown-option]\n1 | a = { NUMBER($n, digits: 2) }\n  |       ^\na.ftl:2:7: warning: b: the option `style` has no value `percnt` [unknown-option]\n2 | b = { NUMBER($n, style: \"percnt\") }\n  |       ^\n  = did you mean `percent`?\na.ftl:3:7: warning: c: the option `minimumFractionDigits` takes a number, without quotes [unknown-option]\n3 | c = { NUMBER($n, minimumFractionDigits: \"2\") }\n  |       ^\na.ftl:4:7: warning: d: the option `style` takes a text, in quotes [unknown-option]\n4 | d = { NUMBER($n, style: 1) }\n  |       ^\n")
 unfolding computing_findings file Reports
 options_that_number_lacks = refl
+
+an_option_one_slip_away : Reports [] (file (codes "a.ftl") (codes "a = { NUMBER($n, typ: \"ordinal\") }\n") ∷ [])
+    (codes "a.ftl:1:7: warning: a: `NUMBER` has no option `typ` [unknown-option]\n1 | a = { NUMBER($n, typ: \"ordinal\") }\n  |       ^\n  = did you mean `type`?\n")
+unfolding computing_findings file Reports
+an_option_one_slip_away = refl
 
 terms_that_no_entry_refers_to : ReportsNotes (file (codes "a.ftl") (codes "a = { -b }\n-b = B\n-c = C\n") ∷ file (codes "b.ftl") (codes "-c = x\n-d = { -d.g ->\n   *[x] y\n }\n    .g = h\n") ∷ [])
     (codes "a.ftl:3:1: note: -c: no entry refers to this term [unused-term]\n3 | -c = C\n  | ^\nb.ftl:1:1: error: -c: the entry at a.ftl:3:1 has the same id, so this one is never shown [duplicate-id]\n1 | -c = x\n  | ^\n")

@@ -3,6 +3,7 @@ mod PositionRows
 mod SyntaxRows
 mod FlawRows
 mod CatalogRows
+mod NumberRow
 mod CategoryRows
 mod NearNameRows
 mod ComparisonRows

@@ -12,7 +12,7 @@ use Rattle.lint_findings.specs.Finding.{Finding, Remark}
 use Rattle.lint_findings.specs.FindingLaws.{syntax_codes, reference_codes}
 use Rattle.lint_findings.specs.Flaws.{Flaw}
 use Rattle.lint_findings.specs.Nodes.{Node}
-use Rattle.lint_findings.specs.NumberOptions.{misuse_remark}
+use Rattle.lint_findings.specs.Misuses.{misuse_remark}
 use Rattle.lint_findings.specs.EntryFindings.{flaw_remark, category_remark, escape_remark, node_flaws, node_categories, node_escapes, node_misuses, node_doubts, node_findings, finding_in}
 
 -- of a flaw of a node

@@ -36,11 +36,17 @@ abbrev pub first_declaration : Text → List Declaration → Option Declaration
 first_declaration id [] = None
 first_declaration id (d ∷ ds) = if bytes_eq d.id id then Some d else first_declaration id ds
 
+-- that a function of this id is there, or an entry at this place that has the same id
+abbrev pub function_text : Text → Text
+function_text id = codes "`" ++ (id ++ codes "` is a function, so this entry is never shown")
+
+abbrev pub earlier_text : Text → Text
+earlier_text place = codes "the entry at " ++ (place ++ codes " has the same id, so this one is never shown")
+
 -- by the first declaration of the id; without one it is that of a function
 abbrev pub duplicate_text : Text → Option Declaration → Text
-duplicate_text id None = codes "`" ++ (id ++ codes "` is a function, so this entry is never shown")
-duplicate_text id (Some d) =
-    codes "the entry at " ++ (location d.file d.offset ++ codes " has the same id, so this one is never shown")
+duplicate_text id None = function_text id
+duplicate_text id (Some d) = earlier_text (location d.file d.offset)
 
 abbrev pub duplicate_remark : Text → Option Declaration → Remark
 duplicate_remark id first = remark error (codes "duplicate-id") (duplicate_text id first)

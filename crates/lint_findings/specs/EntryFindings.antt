@@ -19,7 +19,7 @@ use Rattle.lint_findings.specs.Nodes.{Node, expression, select, repeated_key, el
 use Rattle.lint_findings.specs.Occurrences.{Occurrence, occurrences, PatternPlace, entry_places}
 use Rattle.lint_findings.specs.MissingCategories.{missing_categories}
 use Rattle.lint_findings.specs.Escapes.{invalid_escapes, named_escapes}
-use Rattle.lint_findings.specs.NumberOptions.{Misuse, call_misuses, misuse_remark}
+use Rattle.lint_findings.specs.Misuses.{Misuse, call_misuses, misuse_remark}
 use Rattle.lint_findings.specs.Finding.{warning, Finding, Remark, remark, finding_at}
 use Rattle.lint_findings.specs.FlawHints.{never_ends, endless_hint, flaw_hint}
 use Rattle.lint_findings.specs.FlawWords.{flaw_words}
@@ -58,7 +58,7 @@ node_escapes (expression (t.function_reference id (t.arguments ps ns))) = named_
 node_escapes (expression (t.term_reference id a (t.with_arguments (t.arguments ps ns)))) = named_escapes ns
 node_escapes _ = []
 
--- the named arguments that a call of `NUMBER` makes nothing of
+-- the named arguments that a call of a function of the library makes nothing of
 abbrev pub node_misuses : Node → List Misuse
 node_misuses (expression (t.function_reference id (t.arguments ps ns))) = call_misuses id ns
 node_misuses _ = []

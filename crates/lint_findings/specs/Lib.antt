@@ -9,12 +9,13 @@ pub mod Comparison
 pub mod Nodes
 pub mod Occurrences
 pub mod Escapes
+pub mod Builtins
 pub mod MissingCategories
-pub mod NumberOptions
 pub mod Files
 pub mod Finding
 pub mod FlawWords
 pub mod NearNames
+pub mod Misuses
 pub mod FlawHints
 pub mod SyntaxFindings
 pub mod EntryFindings

@@ -14,6 +14,7 @@ use Rattle.fluent_number.specs.declared.plural.PluralRuleType.TheVariants.{CARDI
 use Rattle.fluent_value.specs.Matching.{category_text}
 use Rattle.fluent_plurals.specs.Plurals.{plurals_by}
 use Rattle.fluent_plurals.specs.declared.plurals.LanguagePlurals.{LanguagePlurals}
+use Rattle.lint_findings.specs.Builtins.{returns_number}
 
 -- `other` is never missing: each select has a default variant.
 abbrev pub categories : List PluralCategory
@@ -54,10 +55,11 @@ abbrev pub has_ordinal_type : Nameds → Bool
 has_ordinal_type t.no_nameds = false
 has_ordinal_type (t.named name e ns) = (bytes_eq name (codes "type") && is_ordinal_text e) || has_ordinal_type ns
 
--- the rules for ordinals if the selector is `NUMBER(.., type: "ordinal")`, and otherwise those for counts
+-- The rules for ordinals if the selector calls a function of the library that returns a number, with `type: "ordinal"`,
+-- and otherwise those for counts.
 abbrev pub selector_rule : Inline → PluralRuleType
 selector_rule (t.function_reference id (t.arguments ps ns)) =
-    if bytes_eq id (codes "NUMBER") && has_ordinal_type ns then ORDINAL else CARDINAL
+    if returns_number id && has_ordinal_type ns then ORDINAL else CARDINAL
 selector_rule _ = CARDINAL
 
 -- ---- what a select lacks

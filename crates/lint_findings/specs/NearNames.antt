@@ -53,6 +53,10 @@ may_be_slip s = nat_lt 2 (length s) && (nat_lt (length s) 65 && list_all is_asci
 unfoldable pub nearest : (Text → Bool) → Text → Option Text
 nearest is_known s = if may_be_slip s then find is_known (near_names s) else None
 
+-- that a name may be meant, which is written with this sign before it
+abbrev pub near_text : Text → Text → Text
+near_text sign name = codes "did you mean " ++ (in_backticks (sign ++ name) ++ codes "?")
+
 -- what may be meant: the nearest name after its sign, if there is one
 abbrev pub nearest_hint : Text → (Text → Bool) → Text → Option Text
-nearest_hint sign is_known s = option_map (λ name. codes "did you mean " ++ (in_backticks (sign ++ name) ++ codes "?")) (nearest is_known s)
+nearest_hint sign is_known s = option_map (near_text sign) (nearest is_known s)

@@ -4,3 +4,4 @@ pub mod EscapeThere
 pub mod NearFound
 pub mod Slips
 pub mod Said
+pub mod Arguments

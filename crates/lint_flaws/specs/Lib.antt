@@ -1,3 +1,4 @@
+pub mod BuiltinView
 pub mod FlawView
 pub mod Said
 pub mod Common

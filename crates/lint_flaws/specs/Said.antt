@@ -1,20 +1,23 @@
 -- What is said of a node, as code has it.
-use Rattle.std.specs.Prelude.{◌≡◌, codes, List, ◌∷◌, ◌++◌, map, Option, option_map, String, string_bytes, Vec}
+use Rattle.std.specs.Prelude.{◌≡◌, List, ◌++◌, map, Option, option_map, String, string_bytes, Vec}
 use Rattle.std.specs.Global.{Global}
 use Rattle.std.specs.Option.{option_to_list}
-use Rattle.fluent_grammar.specs.Words.{Text, dot}
+use Rattle.fluent_grammar.specs.Tree.{Inline}
+use Rattle.fluent_grammar.specs.Words.{Text}
 use Rattle.fluent_ids.specs.IdsView.{ids_view}
 use Rattle.fluent_ids.specs.declared.ids.FluentIds.{FluentIds}
 use Rattle.fluent_meaning.specs.Ids.{Ids, find}
 use Rattle.fluent_plurals.specs.declared.plurals.LanguagePlurals.{LanguagePlurals}
 use Rattle.lint_findings.specs.EntryFindings.{category_remark, flaw_remark, node_categories, node_flaws, node_remarks}
-use Rattle.lint_findings.specs.NumberOptions.{Misuse, misuse_remark}
+use Rattle.lint_findings.specs.Misuses.{Misuse, argument_misuse, misuse_remark}
 use Rattle.lint_findings.specs.Finding as f
 use Rattle.lint_findings.specs.FlawHints.{flaw_hint, message_hint}
+use Rattle.lint_findings.specs.FlawWords.{attribute_words}
 use Rattle.lint_findings.specs.Flaws.{Flaw}
 use Rattle.lint_findings.specs.Nodes.{Node}
-use Rattle.lint_findings.specs.SyntaxErrors.{in_backticks}
 use Rattle.lint_finding.specs.View.{remark_view}
+use Rattle.lint_flaws.specs.BuiltinView.{builtin_view}
+use Rattle.lint_flaws.specs.declared.builtins.Builtin.{Builtin}
 use Rattle.lint_finding.specs.declared.remark.Remark.{Remark}
 
 -- the ids of a catalog, as code has them
@@ -33,7 +36,7 @@ IsSaid said found = option_map remark_view found ≡ said
 abbrev pub AddsRemarks : Vec Remark Global → Vec Remark Global → List f.Remark → Type 0
 AddsRemarks old new added = map remark_view new.items ≡ map remark_view old.items ++ added
 
--- the remark on this misuse of `NUMBER`, if there is one
+-- the remark on this misuse, if there is one
 abbrev pub IsOnMisuse : Option Misuse → Option Remark → Type 0
 IsOnMisuse misuse found = IsSaid (option_map misuse_remark misuse) found
 
@@ -44,6 +47,13 @@ AddsMisuses misuses old new = AddsRemarks old new (map misuse_remark misuses)
 -- that on this misuse, if there is one
 abbrev pub AddsMisuse : Option Misuse → Vec Remark Global → Vec Remark Global → Type 0
 AddsMisuse misuse old new = AddsMisuses (option_to_list misuse) old new
+
+-- the remark on an argument of this name in a call of the function of this row, if there is one
+abbrev pub IsOnArgument : Builtin → Text → Inline → Option Remark → Type 0
+IsOnArgument row name e found = IsOnMisuse (argument_misuse (builtin_view row) name e) found
+
+abbrev pub AddsOnArgument : Builtin → Text → Inline → Vec Remark Global → Vec Remark Global → Type 0
+AddsOnArgument row name e old new = AddsMisuse (argument_misuse (builtin_view row) name e) old new
 
 -- those on the categories that a node lacks are added
 abbrev pub AddsCategories : Option LanguagePlurals → Node → Vec Remark Global → Vec Remark Global → Type 0
@@ -60,12 +70,9 @@ abbrev pub AddsFlaw : CatalogIds → CatalogIds → Node → Vec Remark Global �
 AddsFlaw ids reference node old new =
     AddsRemarks old new (map (flaw_remark (known ids) (known reference)) (node_flaws (known ids) node))
 
--- that an entry with this sign and id has no attribute of this name
-abbrev pub attribute_text : Text → Text → Text → Text
-attribute_text sign id name = codes "there is no attribute " ++ in_backticks (sign ++ (id ++ dot ∷ name))
-
+-- that on an attribute which an entry with this sign and id lacks
 abbrev pub IsOnAttribute : Text → Text → Text → Remark → Type 0
-IsOnAttribute sign id name found = remark_view found ≡ f.remark f.error (codes "unknown-attribute") (attribute_text sign id name)
+IsOnAttribute sign id name found = remark_view found ≡ attribute_words sign id name
 
 -- ---- all remarks
 
@@ -79,10 +86,6 @@ AreOnNode ids reference plurals node found =
 -- a hint, if there is one
 abbrev pub IsHint : Option Text → Option (String Global) → Type 0
 IsHint text hint = option_map string_bytes hint ≡ text
-
--- that a name may be meant, which is written with this sign before it
-abbrev pub near_text : Text → Text → Text
-near_text sign name = codes "did you mean " ++ (in_backticks (sign ++ name) ++ codes "?")
 
 -- that of a flaw
 abbrev pub IsHintOf : CatalogIds → CatalogIds → Flaw → Option (String Global) → Type 0

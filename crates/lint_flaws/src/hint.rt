@@ -5,8 +5,8 @@ ghost use Rattle.std.specs.Prelude.{◌≡◌, IfOk, string_bytes};
 ghost use Rattle.fluent_ast.specs.Borrowed.{attributes_of};
 ghost use Rattle.lint_findings.specs.FlawHints as h;
 ghost use Rattle.lint_findings.specs.Comparison.{as_message};
-ghost use Rattle.lint_findings.specs.NearNames.{nearest_hint};
-ghost use Rattle.lint_flaws.specs.Said.{IsHint, IsMessageHint, near_text};
+ghost use Rattle.lint_findings.specs.NearNames.{near_text, nearest_hint};
+ghost use Rattle.lint_flaws.specs.Said.{IsHint, IsMessageHint};
 ghost use Rattle.fluent_ids.specs.IdsView.{ids_view};
 ghost use Rattle.fluent_meaning.specs.Ids.{find};
 

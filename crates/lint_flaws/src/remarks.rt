@@ -11,8 +11,8 @@ ghost use Rattle.lint_nodes.specs.NodeView.{node_view};
 use crate::common::CommonCategories;
 use crate::escape_nodes::node_escapes;
 use crate::missing::node_categories;
+use crate::misuses::push_misuses;
 use crate::nodes::node_flaw;
-use crate::options::push_misuses;
 use crate::rules::category_text;
 use fluent_number::PluralCategory;
 use fluent_plurals::LanguagePlurals;
@@ -22,7 +22,7 @@ use std::alloc::{AllocError, Global};
 
 /// All that is said of a node, in a catalog with these ids, whose reference has those: its flaw,
 /// the plural categories that it lacks by the rules of a language, in which these are common, its
-/// invalid escapes, and the arguments that `NUMBER` makes nothing of.
+/// invalid escapes, and the named arguments that a function of the library makes nothing of.
 ///
 /// # Errors
 /// [`AllocError`] if memory runs out; nothing is kept.

@@ -8,6 +8,7 @@ ghost use Rattle.lint_findings.specs.MissingCategories as m;
 ghost use Rattle.lint_findings.specs.MissingCategories.{same_category, whole_category};
 ghost use Rattle.fluent_value.specs.Matching as v;
 
+use crate::builtins::returns_number;
 use fluent_ast::{InlineExpression, NamedArgument};
 use fluent_number::{FluentNumber, PluralCategory, PluralOperands, PluralRuleType};
 use fluent_plurals::LanguagePlurals;
@@ -69,8 +70,9 @@ fn has_category(
     category_text(found) == category_text(category)
 }
 
-/// The rules that a select with this selector chooses by: those for ordinals if it is
-/// `NUMBER(.., type: "ordinal")`, and otherwise those for counts.
+/// The rules that a select with this selector chooses by: those for ordinals if it is a call of a
+/// function of the library that returns a number, with `type: "ordinal"`, and otherwise those for
+/// counts.
 ///
 /// # Errors
 /// [`AllocError`] if memory runs out; nothing is kept.
@@ -81,7 +83,7 @@ pub fn selector_rule(
     ensures { IfOk result (λ rule. rule ≡ m.selector_rule (inline_of selector.now)) }
 {
     if let InlineExpression::FunctionReference { id, arguments } = selector {
-        if id.name == "NUMBER" && has_ordinal_type(alloc, &arguments.named)? {
+        if returns_number(id.name) && has_ordinal_type(alloc, &arguments.named)? {
             return Ok(PluralRuleType::ORDINAL);
         }
     }

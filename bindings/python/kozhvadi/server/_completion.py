@@ -5,8 +5,8 @@ from __future__ import annotations
 import re
 from collections.abc import Iterable
 
-from .._fixes import NUMBER_OPTIONS, reference_variables
-from .._occurrences import Symbol
+from .._builtins import BUILTINS, Builtin
+from .._fixes import reference_variables
 from .._samples import Catalog, categories
 from .._scan import Inside, inside
 from ._checks import position_of
@@ -82,13 +82,13 @@ class Completion:
         terms = [_entry_item(catalog, key, _CONSTANT) for key in catalog.entries if key.startswith("-")]
         if word.startswith("-"):
             return terms
-        is_number = place.kind == "call" and place.callee == Symbol("function", "NUMBER")
+        builtin = _builtin(place)
         option = _OPTION.search(document.source, max(0, start - 80), start) if place.kind == "call" else None
         if option:
-            values = NUMBER_OPTIONS.get(option[1].decode(), []) if is_number else []
-            return [{"label": value, "kind": _VALUE} for value in values]
+            known = builtin.options.get(option[1].decode()) if builtin else None
+            return [{"label": value, "kind": _VALUE} for value in known.values] if known else []
         messages = [_entry_item(catalog, key, _TEXT) for key in catalog.entries if not key.startswith("-")]
-        named = _options() if is_number else _arguments(catalog, place)
+        named = _options(builtin) if builtin else _arguments(catalog, place)
         return [
             *named,
             *self._variables(document, place, catalog, reference),
@@ -98,7 +98,7 @@ class Completion:
         ]
 
     def _functions(self) -> list[Json]:
-        names = ["NUMBER", *self._workspace.settings.functions]
+        names = [*BUILTINS, *self._workspace.settings.functions]
         return [{"label": name, "kind": _FUNCTION, "text": f"{name}("} for name in names]
 
     def _variables(self, document: Document, place: Inside, catalog: Catalog, reference: Catalog) -> list[Json]:
@@ -159,8 +159,15 @@ def _attributes(catalog: Catalog, key: str) -> list[Json]:
     return [{"label": f"{key}.{name}", "kind": _PROPERTY} for name in _parts(catalog, key) if name]
 
 
-def _options() -> list[Json]:
-    return [{"label": name, "kind": _PROPERTY, "text": f"{name}: "} for name in NUMBER_OPTIONS]
+def _builtin(place: Inside) -> Builtin | None:
+    """What is known of the function that is called, if it comes with the library."""
+    if place.kind != "call" or not place.callee or place.callee.kind != "function":
+        return None
+    return BUILTINS.get(place.callee.name)
+
+
+def _options(builtin: Builtin) -> list[Json]:
+    return [{"label": name, "kind": _PROPERTY, "text": f"{name}: "} for name in builtin.options]
 
 
 def _arguments(catalog: Catalog, place: Inside) -> list[Json]:

@@ -4,6 +4,7 @@ from __future__ import annotations
 
 import re
 
+from .._builtins import BUILTINS
 from .._bundle import Bundle
 from .._errors import FluentError
 from .._occurrences import Symbol
@@ -50,7 +51,7 @@ class Hovering:
         if symbol.kind == "variable":
             return self._of_variable(document, symbol)
         if symbol.kind == "function":
-            return []
+            return self._of_function(symbol.name)
         key, attribute = (symbol.owner, symbol.name) if symbol.owner else (str(symbol), None)
         catalog, locale = self._workspace.catalog(document).documents, self._workspace.locale(document)
         told = self._of_entry(catalog, key, attribute, locale)
@@ -88,6 +89,14 @@ class Hovering:
             told[0] += f": {kind}, whose categories in {self._code(locale)} are"
             told.append(self._block(numbers))
         return told
+
+    def _of_function(self, name: str) -> list[str]:
+        """What a function of the library takes."""
+        known = BUILTINS.get(name)
+        if known is None:
+            return []
+        options = (f"{option}: {each.described}" for option, each in known.options.items())
+        return [f"{self._code(name)} takes {known.operand}, and these options", self._block("\n".join(options))]
 
     def _plain(self, text: str) -> str:
         """A text that is shown as it is: a comment has no Markdown."""

@@ -1,7 +1,7 @@
 use Rattle.std.proofs.Common.{◌≡◌, ◌∙◌, ◌∷◌, ◌++◌, codes, sym, ap, append_assoc}
 use Rattle.std.proofs.lemmas.Result.{IfOk-weaker}
 use Rattle.fluent_grammar.specs.Words.{Text, dot}
-use Rattle.lint_flaws.specs.Said.{attribute_text}
+use Rattle.lint_findings.specs.FlawWords.{attribute_text}
 use Rattle.lint_flaws.proofs.flaw.attribute_text.Goals as goal
 
 -- from left to right

@@ -1,7 +1,7 @@
 use Rattle.std.proofs.Common.{◌≡◌, ◌∙◌, ◌++◌, codes, sym, ap, append_assoc}
 use Rattle.std.proofs.lemmas.Result.{IfOk-weaker}
 use Rattle.fluent_grammar.specs.Words.{Text}
-use Rattle.lint_flaws.specs.Said.{near_text}
+use Rattle.lint_findings.specs.NearNames.{near_text}
 use Rattle.lint_flaws.proofs.hint.near_text.Goals as goal
 
 -- from left to right

@@ -1,0 +1,62 @@
+"""The functions that come with the library: one table of what is known of each without a call.
+
+The library has the same rows in `crates/lint_flaws/src/builtins.rt`, and `tools/house/check.py` compares them.
+"""
+
+from __future__ import annotations
+
+from typing import NamedTuple, Union
+
+# What an option takes: a number, any text, or one of these texts.
+A_NUMBER, ANY_TEXT = "a number", "any text"
+Takes = Union[str, tuple[str, ...]]
+
+
+class Option(NamedTuple):
+    """A named argument that a function makes something of."""
+
+    takes: Takes
+    # A value as a message has it, if the option doesn't list its values.
+    sample: str = ""
+
+    @property
+    def values(self) -> list[str]:
+        """The values that an editor offers, as a message has them."""
+        return [f'"{text}"' for text in self.takes] if isinstance(self.takes, tuple) else [self.sample]
+
+    @property
+    def described(self) -> str:
+        """What the option takes, in words."""
+        return " or ".join(self.values) if isinstance(self.takes, tuple) else self.takes
+
+
+class Builtin(NamedTuple):
+    """What is known of a function."""
+
+    # What its first argument has to be.
+    operand: str
+    options: dict[str, Option]
+
+    @property
+    def is_of_number(self) -> bool:
+        """Whether the function returns a number that it is given, so that a select on it chooses by plural categories."""
+        return self.operand == A_NUMBER
+
+
+BUILTINS = {
+    "NUMBER": Builtin(
+        A_NUMBER,
+        {
+            "type": Option(("ordinal", "cardinal")),
+            "minimumFractionDigits": Option(A_NUMBER, "2"),
+            "maximumFractionDigits": Option(A_NUMBER, "0"),
+            "minimumIntegerDigits": Option(A_NUMBER, "2"),
+            "minimumSignificantDigits": Option(A_NUMBER, "2"),
+            "maximumSignificantDigits": Option(A_NUMBER, "3"),
+            "useGrouping": Option(("true", "false")),
+            "style": Option(("decimal", "percent", "currency")),
+            "currency": Option(ANY_TEXT, '"EUR"'),
+            "currencyDisplay": Option(("symbol", "code", "name")),
+        },
+    ),
+}
