@@ -32,12 +32,14 @@
 #![warn(missing_docs)]
 
 mod args;
+pub mod ast;
 mod bundle;
 mod c;
 mod call;
 mod decimal;
 mod errors;
 mod ids;
+mod json;
 mod kept;
 mod languages;
 mod linting;
@@ -53,6 +55,7 @@ pub mod resolver;
 mod resource;
 mod text;
 mod tidying;
+mod tree;
 mod value;
 
 /// The page of this package, whose example is a test.
