@@ -145,6 +145,13 @@ session = importlib.metadata.metadata("kozhvadi")["Description"].partition("```p
 assert doctest.DocTestRunner().run(doctest.DocTestParser().get_doctest(session, {}, "README", None, 0)) == (0, 5)')" = 'Hello, Jane!' ]
 }
 
+# The example that changes files, over a file of the stranger's.
+python_example() {
+    cd 'a stranger' &&
+        ../home/kozhvadi/bin/python ../home/.local/share/doc/kozhvadi/examples/migrate.py . --id hello=greeting >changes &&
+        grep -qx '+greeting = Hello, { $name }!' changes
+}
+
 # The language server, and the page of the playground with its two files.
 python_tools() {
     local message='{"id":1,"method":"initialize","params":{"capabilities":{}}}'
@@ -192,6 +199,7 @@ step_with 'c++ cmake' 'a C++ program finds it by CMake, and runs' cpp_program
 step_with luajit 'a program for LuaJIT calls it by handles' lua_program
 step_with nm 'the shared library gives out the headers alone' exports_the_headers_alone
 step_with python3 'pip installs the wheel, and a program uses it' python_program
+step_with python3 'an example in Python changes a file' python_example
 step_with python3 'its language server and its playground begin' python_tools
 step_with cargo 'cargo builds a program over the package' rust_program
 

@@ -37,8 +37,8 @@ def released(root: Path) -> dict[str, Path]:
     sources = [path for pattern in patterns for path in root.glob(f'examples/{pattern}')]
     places = {str(path.relative_to(root)): DOC / path.relative_to(root) for path in sorted(pages + sources)}
     places |= {f'bindings/c/{name}.c': DOC / 'examples' / f'{name}.c' for name in EXAMPLES}
-    for example in ('cpp/notes.cpp', 'ffi/inbox.lua', 'ffi/inbox.go'):
-        places[f'bindings/{example}'] = DOC / 'examples' / Path(example).name
+    for example in ('bindings/cpp/notes.cpp', 'bindings/ffi/inbox.lua', 'bindings/ffi/inbox.go', 'examples/python/migrate.py'):
+        places[example] = DOC / 'examples' / Path(example).name
     headers = [*root.glob('crates/fluent_c/*.h'), root / 'bindings/ffi/fluent_handle.h', root / 'bindings/cpp/fluent.hpp']
     places |= {str(path.relative_to(root)): Path('include') / path.name for path in headers}
     return places | {
