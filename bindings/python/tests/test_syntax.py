@@ -34,6 +34,7 @@ SOURCES = [
     "junk here\n\n  }\n# foo\na = 1\nb = }\n.x\n#e\n",
     "a = 1\n .b\nc = 2\n",
     "a = 1\n  }\n",
+    "name",
     "a={1->\n*\n}\nb={F(1 2)}\nc={d .e}\nd=\t\ne={$x}\u2003\n .f=g\n  \u2003\nh=\n  i\n    \n  j\nk=\n  l\n    {1}\n  ",
     "a = b\n \u2003\n\n\t\nc",
     "a={{1->\n*[b]c\n}}\nb={F({1->\n*[b]c\n  d\n})}\nc=.b\n c\n# \t\n# x \nd=b\n\n c\ne={1->\n*[b]\n  c\n\n  .d\n}\n",
