@@ -1,6 +1,7 @@
 //! The trees of resources.
 
 use kozhvadi::ast::{Entry, Expression, InlineExpression, PatternElement, VariantKey};
+use kozhvadi::visit::{visit_inline, Visit};
 use kozhvadi::FluentResource;
 
 /// The resource of a source, which may have errors.
@@ -64,6 +65,33 @@ fn selects_have_variants() {
     };
     assert_eq!((id.name, arguments.named[0].name.name), ("t", "case"));
     assert_eq!(arguments.named[0].value, InlineExpression::StringLiteral { value: "of" });
+}
+
+/// The texts of patterns, and the literals.
+#[derive(Default)]
+struct Texts<'s>(Vec<&'s str>);
+
+impl<'s> Visit<&'s str> for Texts<'s> {
+    fn visit_text(&mut self, text: &&'s str) {
+        self.0.push(text);
+    }
+
+    fn visit_inline(&mut self, expression: &InlineExpression<&'s str>) {
+        if let InlineExpression::StringLiteral { value } | InlineExpression::NumberLiteral { value } = expression {
+            self.0.push(value);
+        }
+        visit_inline(self, expression);
+    }
+}
+
+#[test]
+fn a_walk_visits_each_node_in_order() {
+    let source =
+        "a = 1{ $n ->\n    [x] 2{ F(3, 4, k: 5) }\n   *[y] { -t(k: \"6\") }7\n}8\n  .b = { { \"9\" } }\n-t = 10\n";
+    let resource = resource(source);
+    let mut texts = Texts::default();
+    resource.entries().for_each(|entry| texts.visit_entry(entry));
+    assert_eq!(texts.0, ["1", "2", "3", "4", "5", "6", "7", "8", "9", "10"]);
 }
 
 #[test]
