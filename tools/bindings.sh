@@ -31,6 +31,7 @@ fi
 if ((failed + skipped == 0)); then
     run_with cc bindings/c/run.sh
     run_with c++ bindings/cpp/run.sh
+    run_with cc bindings/ffi/run.sh
     run_with 'cc cargo' bindings/rust/run.sh
     run_with 'cc python3' bindings/python/run.sh
     run_with 'nvim python3' bindings/python/in_editor.sh

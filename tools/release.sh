@@ -42,7 +42,8 @@ program_part() {
     python3 "$made/help.py" "$folder/bin/ftl" "$folder/share"
 }
 
-# Both libraries with the toolchain's part inside, so that -lfluent_c is all that a program links.
+# Both libraries with the toolchain's part and the calls of fluent_handle.h inside, so that -lfluent_c is all that a program
+# links.
 library_part() {
     local parts
     parts=$(mktemp -d)
@@ -51,8 +52,9 @@ library_part() {
         mkdir fluent kit
         (cd fluent && ar x "$library/libfluent_c.a")
         (cd kit && ar x "$kit/liblibc_c.a" && for part in *; do mv "$part" "../fluent/kit_$part"; done)
+        cc -std=c11 -O2 -fPIC -I "$header" -c -o fluent/fluent_handle.o "$root/bindings/ffi/fluent_handle.c"
         find fluent -type f | LC_ALL=C sort | xargs ar rcsD libfluent_c.a
-        # The calls of the header, and nothing else, are what the shared library gives out.
+        # The calls of the headers, and nothing else, are what the shared library gives out.
         echo "{ global: fluent_*; local: *; };" >exported
         cc -shared -o libfluent_c.so -Wl,-soname,libfluent_c.so.0 -Wl,--build-id=none -Wl,--version-script,exported \
             -Wl,--gc-sections -Wl,--whole-archive libfluent_c.a -Wl,--no-whole-archive
@@ -63,7 +65,7 @@ library_part() {
     ln -s "libfluent_c.so.$version" "$folder/lib/libfluent_c.so.0"
     ln -s libfluent_c.so.0 "$folder/lib/libfluent_c.so"
     rm -rf "$parts"
-    install -m 644 "$header"/*.h "$root/bindings/cpp/fluent.hpp" "$folder/include"
+    install -m 644 "$header"/*.h "$root/bindings/ffi/fluent_handle.h" "$root/bindings/cpp/fluent.hpp" "$folder/include"
     sed "s/@VERSION@/$version/" "$made/fluent_c.pc" >"$folder/lib/pkgconfig/fluent_c.pc"
     local file
     for file in "$made"/cmake/*.cmake; do

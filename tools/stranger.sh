@@ -121,9 +121,15 @@ CMAKE
     [ "$(echo b | env -i LANG=de cpp/built/notes "$doc/examples/notes" | tail -n 1)" = 'Auf Wiedersehen, friend.' ]
 }
 
-exports_the_header_alone() {
+# The program of the page for other languages, over the shared library.
+lua_program() {
+    sed '1,/^```lua$/d;/^```$/,$d' home/.local/share/doc/kozhvadi/bindings/ffi/README.md >first.lua &&
+        [ "$(luajit first.lua "$room/home/.local/lib/libfluent_c.so")" = 'Jane has one message.' ]
+}
+
+exports_the_headers_alone() {
     diff <(nm -D --defined-only home/.local/lib/libfluent_c.so | sed -n 's/.* T //p' | sed 's/@.*//' | sort) \
-        <(grep -o '\bfluent_[a-z_]* *(' home/.local/include/fluent_c.h | tr -d ' (' | sort -u)
+        <(sed -n 's/^[a-z].*\b\(fluent_[a-z_0-9]*\)(.*/\1/p' home/.local/include/fluent_c.h home/.local/include/fluent_handle.h | sort -u)
 }
 
 python_program() {
@@ -137,6 +143,13 @@ print(bundle.format("hello", name="Jane").text)
 import doctest, importlib.metadata
 session = importlib.metadata.metadata("kozhvadi")["Description"].partition("```python")[2].partition("```")[0]
 assert doctest.DocTestRunner().run(doctest.DocTestParser().get_doctest(session, {}, "README", None, 0)) == (0, 5)')" = 'Hello, Jane!' ]
+}
+
+# The example that changes files, over a file of the stranger's.
+python_example() {
+    cd 'a stranger' &&
+        ../home/kozhvadi/bin/python ../home/.local/share/doc/kozhvadi/examples/migrate.py . --id hello=greeting >changes &&
+        grep -qx '+greeting = Hello, { $name }!' changes
 }
 
 # The language server, and the page of the playground with its two files.
@@ -199,8 +212,10 @@ step_with tar 'a damaged release is not installed' damage_is_noticed
 step_with python3 'the links of its pages lead somewhere' links_lead_somewhere
 step_with 'cc pkg-config' 'a C program links it by pkg-config, and runs' c_program
 step_with 'c++ cmake' 'a C++ program finds it by CMake, and runs' cpp_program
-step_with nm 'the shared library gives out the header alone' exports_the_header_alone
+step_with luajit 'a program for LuaJIT calls it by handles' lua_program
+step_with nm 'the shared library gives out the headers alone' exports_the_headers_alone
 step_with python3 'pip installs the wheel, and a program uses it' python_program
+step_with python3 'an example in Python changes a file' python_example
 step_with python3 'its language server and its playground begin' python_tools
 step_with bash 'editors highlight a file' highlights
 step_with cargo 'cargo builds a program over the package' rust_program

@@ -72,9 +72,9 @@ inline const char *words_of(status why) noexcept {
     case status::no_pattern:
         return "the message has no value, or no attribute of the name";
     case status::bad_argument:
-        return "what was passed isn't valid: an argument's decimal, or the text of a call";
+        return "what was passed isn't valid: an argument's kind or decimal, the size of options, or the text of a call";
     case status::no_bundle:
-        return "there is no bundle: it was moved from";
+        return "there is no bundle";
     case status::has_errors:
         return "the report has an error, or a warning that counts";
     case status::damaged:
@@ -273,7 +273,7 @@ public:
     value() noexcept = default;
     value(std::string text) : held_(std::move(text)) {}
     value(std::string_view text) : held_(std::string(text)) {}
-    value(const char *text) : held_(std::string(text)) {}
+    value(const char *text) : held_(std::string(text ? text : "")) {}
     value(decimal number) : held_(std::move(number)) {}
     value(double number) {
         std::visit([this](auto &&made) { held_ = std::move(made); }, detail::of_double(number));
@@ -282,6 +282,9 @@ public:
     value(I number) : held_(std::int64_t{number}) {}
     template <class U, std::enable_if_t<detail::is_unsigned_number<U>, int> = 0>
     value(U number) : held_(std::uint64_t{number}) {}
+    // A truth value is no number: pass a text, or choose the message by it.
+    template <class B, std::enable_if_t<std::is_same_v<B, bool>, int> = 0>
+    value(B) = delete;
 
     bool has_value() const noexcept { return held_.index() != 0; }
     bool is_text() const noexcept { return std::holds_alternative<std::string>(held_); }
@@ -321,7 +324,7 @@ private:
 class argument {
 public:
     argument(std::string_view name, std::string_view text) noexcept : name_(name), text_(text) { made_.kind = FLUENT_TEXT; }
-    argument(std::string_view name, const char *text) noexcept : argument(name, std::string_view(text)) {}
+    argument(std::string_view name, const char *text) noexcept : argument(name, std::string_view(text ? text : "")) {}
     argument(std::string_view name, const std::string &text) noexcept : argument(name, std::string_view(text)) {}
     argument(std::string_view name, const decimal &number) noexcept : argument(name, std::string_view(number.digits)) {
         made_.kind = FLUENT_DECIMAL;
@@ -341,6 +344,9 @@ public:
         made_.kind = FLUENT_UNSIGNED;
         made_.unsigned_integer = number;
     }
+    // A truth value is no number: pass a text, or choose the message by it.
+    template <class B, std::enable_if_t<std::is_same_v<B, bool>, int> = 0>
+    argument(std::string_view name, B) = delete;
     argument(std::string_view name, const value &given) : name_(name) { take(given.held()); }
 
     // What fluent_c.h takes. It is of use as long as this argument is.
@@ -594,6 +600,9 @@ public:
     explicit bundle(
         const std::vector<std::string_view> &sources, const settings &how = {}, functions called = {})
         : bundle(make_of(sources, how, std::move(called))) {}
+    explicit bundle(
+        std::initializer_list<std::string_view> sources, const settings &how = {}, functions called = {})
+        : bundle(make_of(std::vector<std::string_view>(sources), how, std::move(called))) {}
 
     // The same without exceptions.
     static expected<bundle> try_make(

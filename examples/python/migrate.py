@@ -8,7 +8,7 @@ translation has to follow, in the message and in those that refer to it, and thi
 a folder. Without `--write` it shows what it would change.
 
 A file in which something can't be read is reported and stays as it is: its junk may be the very message that is changed.
-It ends with 1 if there is such a file. Run it with bindings/python in PYTHONPATH.
+It ends with 1 if there is such a file. It needs the module kozhvadi: in the repository, put bindings/python into PYTHONPATH.
 """
 import argparse
 import difflib

@@ -1,5 +1,5 @@
 #!/usr/bin/env python3
-"""Puts the pages, the examples in C and C++ and the sources that they use into a release.
+"""Puts the pages, the examples and the sources that they use into a release.
 
     pages.py ROOT RELEASE
 
@@ -32,14 +32,15 @@ LINK = re.compile(r'!?\[([^\]]*)\]\(([^)\s#]+)(#[^)\s]*)?\)')
 
 def released(root: Path) -> dict[str, Path]:
     """The files of the repository that a release has, and where it has them."""
-    folders = ('docs', 'docs/guide', 'docs/reference', 'bindings', 'bindings/c', 'bindings/cpp', 'bindings/python')
+    folders = ('docs', 'docs/guide', 'docs/reference', 'bindings', *(f'bindings/{name}' for name in ('c', 'cpp', 'ffi', 'python')))
     pages = [page for folder in folders for page in root.glob(f'{folder}/*.md') if page.name not in OF_THE_REPOSITORY]
     patterns = ('*.ftl', 'l10n/*/main.ftl', 'notes/*/notes.ftl')
     sources = [path for pattern in patterns for path in root.glob(f'examples/{pattern}')]
     places = {str(path.relative_to(root)): DOC / path.relative_to(root) for path in sorted(pages + sources)}
     places |= {f'bindings/c/{name}.c': DOC / 'examples' / f'{name}.c' for name in EXAMPLES}
-    places['bindings/cpp/notes.cpp'] = DOC / 'examples' / 'notes.cpp'
-    headers = [*root.glob('crates/fluent_c/*.h'), root / 'bindings/cpp/fluent.hpp']
+    for example in ('bindings/cpp/notes.cpp', 'bindings/ffi/inbox.lua', 'bindings/ffi/inbox.go', 'examples/python/migrate.py'):
+        places[example] = DOC / 'examples' / Path(example).name
+    headers = [*root.glob('crates/fluent_c/*.h'), root / 'bindings/ffi/fluent_handle.h', root / 'bindings/cpp/fluent.hpp']
     places |= {str(path.relative_to(root)): Path('include') / path.name for path in headers}
     return places | {
         'CHANGELOG.md': DOC / 'CHANGELOG.md',

@@ -55,6 +55,8 @@ void answers() {
     const fluent::bundle polish(std::vector<std::string_view>{source, "last = koniec\n"}, without_marks("pl"));
     SAME(polish.format("unread", {{"count", 1234567.5}}), "1\u00a0234\u00a0567,5 messages");
     SAME(polish.format("last"), "koniec");
+    const fluent::bundle listed({"a = 1\n", "b = 2\n"});
+    SAME(listed.format("a") + listed.format("b"), "12");
 }
 
 void errors() {
@@ -101,6 +103,8 @@ void lists() {
 }
 
 void moves() {
+    static_assert(!std::is_constructible_v<fluent::argument, const char *, bool>);
+    static_assert(!std::is_constructible_v<fluent::value, bool>);
     static_assert(!std::is_copy_constructible_v<fluent::bundle> && !std::is_copy_assignable_v<fluent::bundle>);
     static_assert(std::is_nothrow_move_constructible_v<fluent::bundle>);
     static_assert(std::is_nothrow_move_assignable_v<fluent::bundle>);
@@ -130,6 +134,9 @@ void null_pointers() {
     const fluent::bundle bundle("a = [{ $b }]\n", without_marks(""));
     SAME(bundle.format("a", {{"b", none}}), "[]");
     SAME(bundle.format("a", {{none, none}}), "[{$b}]");
+    SAME(bundle.format("a", {{"b", nullptr}}), "[]");
+    const char *const missing = nullptr;
+    SAME(bundle.format("a", {{"b", fluent::value(missing)}}), "[]");
     SAME(fluent::negotiate({}, {}).size(), 0u);
     SAME(fluent::negotiate({""}, {""}).size(), 0u);
 }

@@ -1,4 +1,5 @@
-// Doubles as arguments: some whose digits are known, and many beside what fluent.h makes of them.
+// What fluent.hpp has in common with fluent.h: the words of a status, and doubles as arguments, some whose digits are known, and
+// many beside what fluent.h makes of them.
 #include <cmath>
 #include <cstring>
 #include <limits>
@@ -34,9 +35,16 @@ void is_that_of_c(double number) {
     SAME(value.text(), std::string(digits.text));
 }
 
+// One number more than there are, so that this fails when the header gets another.
+void words_are_those_of_c() {
+    for (std::uint32_t number = 0; number <= FLUENT_CALL + 1; number++)
+        SAME(std::string(fluent::words_of(static_cast<fluent::status>(number))), std::string(fluent_status_text(number)));
+}
+
 } // namespace
 
 void test_doubles() {
+    words_are_those_of_c();
     SAME(digits_of(0.0), "1 0");
     SAME(digits_of(-0.0), "1 0");
     SAME(digits_of(0.1), "1 0.1");

@@ -3,13 +3,19 @@
 import copy
 import ctypes
 import doctest
+import itertools
 import json
+import os
 import pickle
 import unittest
+from pathlib import Path
 
 from kozhvadi import _library as c
 from kozhvadi import occurrences, syntax
+from kozhvadi.syntax.errors import CODES
 from kozhvadi.syntax import FluentParser, FluentSerializer, Transformer, Visitor, ast, parse, serialize, visitor
+
+ROWS = Path(__file__).resolve().parents[3] / "crates/all_rows/data/syntax"
 
 # Sources of each kind of node, damaged ones too.
 SOURCES = [
@@ -28,6 +34,7 @@ SOURCES = [
     "junk here\n\n  }\n# foo\na = 1\nb = }\n.x\n#e\n",
     "a = 1\n .b\nc = 2\n",
     "a = 1\n  }\n",
+    "name",
     "a={1->\n*\n}\nb={F(1 2)}\nc={d .e}\nd=\t\ne={$x}\u2003\n .f=g\n  \u2003\nh=\n  i\n    \n  j\nk=\n  l\n    {1}\n  ",
     "a = b\n \u2003\n\n\t\nc",
     "a={{1->\n*[b]c\n}}\nb={F({1->\n*[b]c\n  d\n})}\nc=.b\n c\n# \t\n# x \nd=b\n\n c\ne={1->\n*[b]\n  c\n\n  .d\n}\n",
@@ -72,6 +79,41 @@ def spelled(node, source):
     return exact.get(type(node), lambda: None)()
 
 
+def rows(*files):
+    """The rows of some files of the proved program."""
+    for file in files:
+        with (ROWS / f"{file}.jsonl").open(encoding="utf-8") as lines:
+            yield from map(json.loads, lines)
+
+
+def in_python(value):
+    """The tree of a row as these classes have it: the texts of a pattern's lines are one, and so are those of a comment."""
+    if isinstance(value, list):
+        return [in_python(each) for each in value]
+    if not isinstance(value, dict):
+        return value
+    made = {key: in_python(each) for key, each in value.items() if key != "syntax"}
+    if made["type"] == "Pattern":
+        texts = itertools.groupby(made["elements"], lambda element: element["type"] == "TextElement")
+        made["elements"] = [element for is_text, group in texts for element in (joined(group) if is_text else group)]
+    if made["type"].endswith("Comment"):
+        made["content"] = "\n".join(made["content"])
+    return {**made, "type": "SelectExpression" if made["type"] == "Select" else made["type"]}
+
+
+def joined(texts):
+    return [{"type": "TextElement", "value": "".join(text["value"] for text in texts)}]
+
+
+def plain(value):
+    """A JSON value without spans and annotations."""
+    if isinstance(value, list):
+        return [plain(each) for each in value]
+    if isinstance(value, dict):
+        return {key: plain(each) for key, each in value.items() if key not in ("span", "annotations")}
+    return value
+
+
 def stripped(text):
     """The lines of a text without the indent, nor white space at its end, which is taken off a pattern."""
     return [line.lstrip(" ") for line in text.rstrip().split("\n")]
@@ -100,36 +142,101 @@ EDGES = {
 
 
 class Syntax(unittest.TestCase):
-    def test_spans(self):
+    def check_places(self, source):
         """Each node is where its source has it, inside the node above it."""
-        for source in SOURCES:
-            for node in nodes(parse(source)):
-                here = source[node.span.start : node.span.end]
-                exact = spelled(node, source)
-                with self.subTest(source=source, node=type(node).__name__, here=here):
-                    if exact is not None:
-                        self.assertEqual(here, exact)
-                    begin, end = EDGES.get(type(node), ("", ""))
-                    self.assertTrue(here.startswith(begin) and here.endswith(end))
-                    if isinstance(node, ast.TextElement):
-                        self.assertEqual(stripped(here.replace("\r\n", "\n")), stripped(node.value))
-                    for below in vars(node).values():
-                        for child in below if isinstance(below, list) else [below]:
-                            if isinstance(child, ast.SyntaxNode) and not isinstance(child, ast.Annotation):
-                                self.assertTrue(node.span.start <= child.span.start <= child.span.end <= node.span.end)
+        for node in nodes(parse(source)):
+            here = source[node.span.start : node.span.end]
+            exact = spelled(node, source)
+            with self.subTest(source=source, node=type(node).__name__, here=here):
+                if exact is not None:
+                    self.assertEqual(here, exact)
+                begin, end = EDGES.get(type(node), ("", ""))
+                self.assertTrue(here.startswith(begin) and here.endswith(end))
+                if isinstance(node, ast.TextElement):
+                    self.assertEqual(stripped(here.replace("\r\n", "\n")), stripped(node.value))
+                for below in vars(node).values():
+                    for child in below if isinstance(below, list) else [below]:
+                        if isinstance(child, ast.SyntaxNode) and not isinstance(child, ast.Annotation):
+                            self.assertTrue(node.span.start <= child.span.start <= child.span.end <= node.span.end)
 
-    def test_names_are_where_the_library_finds_them(self):
+    def check_names(self, source):
         """The proved call for occurrences has the same names at the same places."""
+        text = source.encode()
+        found = [
+            (each.start, each.end)
+            for each in occurrences(source)
+            # The library lists the arguments that a term is passed, too.
+            if each.symbol.kind != "variable" or text[each.start - 1 : each.start] == b"$"
+        ]
+        offsets = [0]
+        for character in source:
+            offsets.append(offsets[-1] + len(character.encode()))
+        placed = sorted((offsets[span.start], offsets[span.end]) for span in names(parse(source)))
+        with self.subTest(source=source):
+            self.assertEqual(placed, found)
+
+    def test_nodes_are_where_they_are_written(self):
         for source in SOURCES:
-            text = source.encode()
-            found = [
-                (len(text[: each.start].decode()), len(text[: each.end].decode()))
-                for each in occurrences(source)
-                # The library lists the arguments that a term is passed, too.
-                if each.symbol.kind != "variable" or text[each.start - 1 : each.start] == b"$"
-            ]
+            self.check_places(source)
+            self.check_names(source)
+
+    def test_rows_have_their_trees(self):
+        """The rows of the proved program: what comes is from the rules."""
+        for row in rows("rows", "parse"):
+            source, tree = row["source"], parse(row["source"])
             with self.subTest(source=source):
-                self.assertEqual(sorted((span.start, span.end) for span in names(parse(source))), found)
+                if "tree" in row:
+                    self.assertEqual(plain(tree.to_json()), in_python(row["tree"]))
+                junk = [entry for entry in tree.body if isinstance(entry, ast.Junk)]
+                told = [(note.code, note.span.start) for stretch in junk for note in stretch.annotations]
+                text = source.encode()
+                if "errors" in row:
+                    wanted = [(CODES[each["kind"]], len(text[: each["pos"][0]].decode())) for each in row["errors"]]
+                    self.assertEqual(told, wanted)
+            self.check_places(source)
+            self.check_names(source)
+
+    def test_rows_are_written(self):
+        for row in rows("parse", "written"):
+            if row["source"].endswith("#"):
+                # A comment without lines, which is kept here.
+                continue
+            with self.subTest(source=row["source"]):
+                self.assertEqual(serialize(parse(row["source"])), row["written"])
+                self.assertEqual(serialize(parse(row["source"]), with_junk=True), row["written_with_junk"])
+
+    def test_files_of_a_corpus(self):
+        """Files of the folder that CORPUS names."""
+        for path in Path(os.environ["CORPUS"]).rglob("*.ftl") if os.environ.get("CORPUS") else []:
+            with path.open(encoding="utf-8", newline="") as file:
+                source = file.read()
+            self.check_places(source)
+            self.check_names(source)
+            self.assertEqual(serialize(parse(source)), write(source))
+
+    def test_documented_examples(self):
+        """Programs in the manner of the documentation of `fluent.syntax`, with another import."""
+        resource = parse("a-key = String to localize")
+        resource.body[0].value.elements[0].value = "Localized string"
+        self.assertEqual(serialize(resource), "a-key = Localized string\n")
+
+        class Words(visitor.Visitor):
+            count = 0
+
+            def visit_TextElement(self, node):
+                self.count += len(node.value.split())
+
+        words = Words()
+        words.visit(parse("one = Just one\ntwo = { $n ->\n   *[other] And two more { -brand }\n}\n"))
+        self.assertEqual(words.count, 5)
+
+        class Renamed(visitor.Transformer):
+            def visit_TermReference(self, node):
+                return ast.StringLiteral(node.id.name)
+
+        changed = Renamed().visit(parse("two = { -brand } here\n"))
+        self.assertEqual(serialize(changed), 'two = { "brand" } here\n')
+        self.assertEqual(str(ast.Identifier("a")), '{"span": null, "name": "a", "type": "Identifier"}')
 
     def test_texts(self):
         message = parse("a = b\r\n    c\r\n\r\n     d { $x }\r\n   \r\n").body[0]

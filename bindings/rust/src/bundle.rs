@@ -98,7 +98,7 @@ impl<R: Borrow<FluentResource>> FluentBundle<R> {
     pub fn add_resource(&mut self, resource: R) -> Result<(), Vec<FluentError>> {
         self.prepare(resource.borrow());
         let mut errors = Vec::new();
-        for entry in resource.borrow().entries() {
+        for entry in resource.borrow().listed() {
             match self.entries.entry(entry.name()) {
                 hash_map::Entry::Vacant(place) => {
                     let id = place.key().clone();
@@ -124,7 +124,7 @@ impl<R: Borrow<FluentResource>> FluentBundle<R> {
     /// one counts.
     pub fn add_resource_overriding(&mut self, resource: R) {
         self.prepare(resource.borrow());
-        for entry in resource.borrow().entries() {
+        for entry in resource.borrow().listed() {
             let id = entry.name();
             if self.entries.insert(id.clone(), Held::of(&entry, &id, self.number)).is_none() {
                 self.ids.push(id);

@@ -101,6 +101,7 @@ pub struct FluentArgument {
 extern "C" {
     pub fn fluent_outline(text: *const u8, len: usize, made: *mut FluentText, counts: *mut FluentCounts) -> u32;
     pub fn fluent_tidy(text: *const u8, len: usize, made: *mut FluentText, place: *mut FluentPlace) -> u32;
+    pub fn fluent_write_json(text: *const u8, len: usize, made: *mut FluentText) -> u32;
     pub fn fluent_occurrences(text: *const u8, len: usize, made: *mut FluentText) -> u32;
     pub fn fluent_lint(
         files: *const FluentFile,

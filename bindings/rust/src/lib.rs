@@ -9,6 +9,7 @@
 //! - [`FluentMessage`] is a message of a bundle.
 //! - [`FluentArgs`] are the arguments of a message.
 //! - [`negotiate_languages`] finds which of a program's languages suit a user, and [`Localization`] asks their bundles.
+//! - [`FluentResource::entries`] is the tree of a source, of [`ast`], and [`visit`] walks over it.
 //! - [`lint()`] finds what is wrong with the files of a catalog, [`tidy`] formats a source, and
 //!   [`occurrences()`] says where its names are.
 //!
@@ -32,12 +33,14 @@
 #![warn(missing_docs)]
 
 mod args;
+pub mod ast;
 mod bundle;
 mod c;
 mod call;
 mod decimal;
 mod errors;
 mod ids;
+mod json;
 mod kept;
 mod languages;
 mod linting;
@@ -53,7 +56,9 @@ pub mod resolver;
 mod resource;
 mod text;
 mod tidying;
+mod tree;
 mod value;
+pub mod visit;
 
 /// The page of this package, whose example is a test.
 #[cfg(doctest)]

@@ -10,9 +10,9 @@ from functools import partial
 from typing import Any, cast
 
 from .. import _library as c
-from .._bundle import Bundle
 from .._errors import SourceError
 from .._linting import refuse
+from .._reports import source_errors
 from .._values import encoded
 from . import ast
 from ._placed import Reader
@@ -92,14 +92,26 @@ def _tree(source: bytes) -> Any:
 
 def _annotate(source: str, junk: list[ast.Junk], with_spans: bool) -> None:
     """Says why each stretch of junk can't be read: there is one error for each, in their order."""
-    with Bundle([source]) as bundle:
-        errors = [error for error in bundle.errors if error.kind != "Overriding"]
-    for stretch, error in zip(junk, errors):
+    for stretch, error in zip(junk, _errors(source.encode())):
         annotation = ast.Annotation(CODES.get(error.kind, "E0001"), message=str(error).split(": ", 1)[-1])
         if with_spans:
             place = _index(source, error)
             annotation.add_span(place, place)
         stretch.add_annotation(annotation)
+
+
+def _errors(source: bytes) -> list[SourceError]:
+    """The errors of a source, as a bundle of it has them."""
+    bundle, report = c.FluentBundle(), c.FluentText()
+    listed, count = c.sources([source])
+    try:
+        _checked(c.library.fluent_bundle_new_within(listed, count, b"", 0, True, False, c.THREAD_STACK, bundle))
+        _checked(c.library.fluent_bundle_errors(bundle, report))
+        lines = c.lines_of(report)
+    finally:
+        c.library.fluent_free_text(report)
+        c.library.fluent_bundle_free(bundle)
+    return source_errors([line for line in lines if line.startswith("source ")], [("source 1", source)], False)
 
 
 def _index(source: str, error: SourceError) -> int:
