@@ -37,10 +37,11 @@ _MOST_SHOWN = 1000
 
 
 class Server:
-    """A language server that sends its messages by a function."""
+    """A language server that sends its messages by a function. With `counts_bytes` positions do so, whatever the client
+    says."""
 
-    def __init__(self, send: Callable[[object], None]) -> None:
-        self._send = send
+    def __init__(self, send: Callable[[object], None], counts_bytes: bool = False) -> None:
+        self._send, self._counts_bytes = send, counts_bytes
         self.workspace = Workspace()
         self._checks = Checks(self.workspace)
         self._actions = Actions(self.workspace, self._checks)
@@ -139,7 +140,7 @@ class Server:
         return answered
 
     def _initialize(self, params: Params) -> Json:
-        self._can = can = Abilities.of(params)
+        self._can = can = Abilities.of(params, self._counts_bytes)
         self._naming.has_nested_symbols, self._naming.has_versions = can.nested_symbols, can.versions
         self._completion.has_snippets, self._hovering.has_markdown = can.snippets, can.markdown
         self._checks.has_related, self._checks.has_links = can.related, can.links
@@ -273,9 +274,9 @@ def _with_params(handlers: dict[str, Callable[[Params], object]]) -> dict[str, C
     return {name: answering(handler) for name, handler in handlers.items()}
 
 
-def serve(given: Input, output: Output) -> int:
+def serve(given: Input, output: Output, counts_bytes: bool = False) -> int:
     """Answers the messages of a stream until `exit`, or its end. Returns 0 if it was shut down before that."""
-    server, inbox = Server(writer(output)), Inbox(given)
+    server, inbox = Server(writer(output), counts_bytes), Inbox(given)
     server.ended = inbox.end
     stop_if(lambda: inbox.is_stopped)
     since = time.monotonic()
