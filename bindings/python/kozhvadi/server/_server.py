@@ -47,7 +47,8 @@ class Server:
         self._actions = Actions(self.workspace, self._checks)
         self._naming, self._hovering = Naming(self.workspace), Hovering(self.workspace)
         self._completion, self._moving = Completion(self.workspace), Moving(self.workspace)
-        structure, hints, highlighting = Structure(self.workspace), Hints(self.workspace), Highlighting(self.workspace)
+        self._structure, self._hints = Structure(self.workspace), Hints(self.workspace)
+        self._highlighting = Highlighting(self.workspace)
         self._unchecked: dict[str, None] = {}
         self._shown: set[str] = set()
         self._initial: dict[str, Any] = {}
@@ -55,7 +56,11 @@ class Server:
         self.ended: Callable[[], None] = lambda: None
         self._can = Abilities()
         self._asked = 0
-        answers: dict[str, Callable[[Params], object]] = {
+        self.session = Session(send, _with_params(self._answers()), _with_params(self._notices()))
+
+    def _answers(self) -> dict[str, Callable[[Params], object]]:
+        """What answers each request."""
+        return {
             "initialize": self._initialize,
             "shutdown": lambda _: None,
             "textDocument/definition": self._naming.definition,
@@ -70,17 +75,20 @@ class Server:
             "textDocument/codeAction": self._checks_asked(self._actions.actions),
             "workspace/executeCommand": self._checks_asked(self._execute),
             "textDocument/formatting": self._format,
-            "textDocument/foldingRange": structure.folds,
-            "textDocument/selectionRange": structure.selections,
-            "textDocument/inlayHint": hints.hints,
-            "textDocument/codeLens": hints.lenses,
-            "textDocument/semanticTokens/full": highlighting.full,
-            "textDocument/semanticTokens/range": highlighting.of_range,
+            "textDocument/foldingRange": self._structure.folds,
+            "textDocument/selectionRange": self._structure.selections,
+            "textDocument/inlayHint": self._hints.hints,
+            "textDocument/codeLens": self._hints.lenses,
+            "textDocument/semanticTokens/full": self._highlighting.full,
+            "textDocument/semanticTokens/range": self._highlighting.of_range,
             "textDocument/diagnostic": self._checks.pulled,
             "workspace/diagnostic": self._checks.pulled_of_workspace,
             "workspace/willRenameFiles": self._moving.moves,
         }
-        notices: dict[str, Callable[[Params], object]] = {
+
+    def _notices(self) -> dict[str, Callable[[Params], object]]:
+        """What takes each notification."""
+        return {
             "initialized": self._watch,
             "textDocument/didOpen": self._open,
             "textDocument/didChange": self._change,
@@ -90,7 +98,6 @@ class Server:
             "workspace/didChangeWatchedFiles": lambda _: self._check_all(),
             "workspace/didChangeWorkspaceFolders": self._change_folders,
         }
-        self.session = Session(send, _with_params(answers), _with_params(notices))
 
     def check(self) -> None:
         """Checks what has changed, and sends what is found."""
