@@ -49,7 +49,7 @@ class _Refused(Exception):
 class Playground(ThreadingHTTPServer):
     """Serves the page on 127.0.0.1. `start` returns what it shows at first; port 0 is any that is free.
 
-    Each request has a thread. The library lets others run while it works, so no page waits for another.
+    Each request has a thread, and there is no lock: others run while the library reads and lints.
     """
 
     daemon_threads = True

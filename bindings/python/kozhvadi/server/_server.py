@@ -106,8 +106,8 @@ class Server:
             document = self.workspace.open.get(uri)
             published = self._checks.check(document) if document else []
             absent = self.workspace.missing_reference(document) if document else None
-            if absent:
-                self._show(absent)
+            for words in [*([absent] if absent else []), *(self._checks.unread if document else [])]:
+                self._show(words)
             self._unchecked.pop(uri, None)
             for each in published:
                 self._unchecked.pop(each["uri"], None)
