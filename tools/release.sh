@@ -89,10 +89,12 @@ python_part() {
     rm -rf "$parts"
 }
 
-# What editors take: highlighting for Vim, Emacs, and those that read grammars of TextMate.
+# What editors take: highlighting for Vim, Emacs, and those that read grammars of TextMate, and the extension for Visual
+# Studio Code.
 editor_part() {
     mkdir -p "$folder/share/editors"
     cp -R "$root/editors/vim" "$root/editors/emacs" "$root/editors/fluent.tmLanguage.json" "$folder/share/editors"
+    python3 "$made/vsix.py" "$root/editors" "$version" "$folder/share/editors" >/dev/null
 }
 
 program_part

@@ -170,7 +170,7 @@ for name in ("", "page.css", "page.js", "start"):
 # The mode of Emacs and the syntax of Vim are where the guide says.
 highlights() {
     local share=home/.local/share/editors
-    [ -s "$share/fluent.tmLanguage.json" ] || return
+    [ -s "$share/fluent.tmLanguage.json" ] && python3 -m zipfile -l "$share/kozhvadi-$version.vsix" | grep -q extension/package.json || return
     if command -v vim >/dev/null; then
         vim -es -N -u NONE -i NONE --cmd "set runtimepath^=$share/vim" -c 'filetype plugin on | syntax on' \
             -c 'edit a\ stranger/hello.ftl' -c 'call writefile([&filetype, synIDattr(synID(1, 1, 1), "name")], "seen")' -c 'qa!' </dev/null
@@ -217,7 +217,7 @@ step_with nm 'the shared library gives out the headers alone' exports_the_header
 step_with python3 'pip installs the wheel, and a program uses it' python_program
 step_with python3 'an example in Python changes a file' python_example
 step_with python3 'its language server and its playground begin' python_tools
-step_with bash 'editors highlight a file' highlights
+step_with python3 'editors highlight a file' highlights
 step_with cargo 'cargo builds a program over the package' rust_program
 
 counts

@@ -137,6 +137,7 @@ GOOD_BEHIND = re.compile(r'\b(?:left|leaves?|far|call)\b[^.;]*?\bbehind\b')
 VERSIONS = {
     'crates/ftl_arguments/src/version.rt': r'VERSION: &str = "([^"]+)"',
     'bindings/rust/Cargo.toml': r'^version = "([^"]+)"',
+    'editors/vscode/package.json': r'^  "version": "([^"]+)"',
     'CHANGELOG.md': r'^## (\d\S*)',
     'docs/reference/protocol.md': r'`ftl (\d[^`]*)`',
 }

@@ -2,7 +2,6 @@
 
 from __future__ import annotations
 
-from collections import deque
 from collections.abc import Iterable, Mapping
 from dataclasses import dataclass, field
 from decimal import Decimal
@@ -15,6 +14,9 @@ from ._places import Places
 from ._scan import Entry, Part
 
 Sample = Union[str, int, Decimal]
+
+# A pattern: the id of its message, or of its term with a `-`, and the name of its attribute.
+Named = tuple[str, Union[str, None]]
 
 CATEGORIES = ("zero", "one", "two", "few", "many", "other")
 
@@ -91,6 +93,13 @@ class Variable:
     def is_numeric(self) -> bool:
         return self.is_number or self.is_plural or any(_is_digits(key) for key in self.keys)
 
+    def merged(self, other: Variable | None) -> Variable:
+        """A variable that chooses what both do."""
+        if other is None:
+            return self
+        keys = [*other.keys, *(each for each in self.keys if each not in other.keys)]
+        return Variable(self.name, self.is_number or other.is_number, self.is_ordinal or other.is_ordinal, keys)
+
     def cases(self, locale: str) -> list[tuple[str, Sample]]:
         """A sample for each variant that it may choose, and what chooses it: a category or a key."""
         exact = [(key, key) for key in self.keys if key not in CATEGORIES]
@@ -127,44 +136,92 @@ class Case(NamedTuple):
     arguments: dict[str, Sample]
 
 
+def _add(found: dict[str, Variable], part: Part) -> None:
+    """Adds the variables of a part, and what it chooses by them."""
+    for name in part.variables():
+        variable = found.setdefault(name, Variable(name))
+        variable.is_number = variable.is_number or name in part.numbers
+    for select in part.selects:
+        if select.variable in found:
+            variable = found[select.variable]
+            variable.keys += [each for each in select.keys if each not in variable.keys]
+            variable.is_number = variable.is_number or select.is_number
+            variable.is_ordinal = variable.is_ordinal or select.is_ordinal
+
+
 class Catalog:
     """The entries of sources that are loaded together. The first of an id counts."""
 
     def __init__(self, sources: Iterable[Places]) -> None:
         self.entries: dict[str, Entry] = {}
+        self._variables: dict[Named, dict[str, Variable]] = {}
         for places in sources:
             for entry in places.entries:
                 self.entries.setdefault(entry.key, entry)
 
-    def shown(self, key: str, attribute: str | None) -> list[Part]:
-        """The parts that a message is shown with: its own, and those of the messages that it refers to."""
-        seen: dict[tuple[str, str | None], Part | None] = {}
-        left = deque([(key, attribute)])
-        while left:
-            wanted = left.popleft()
-            entry = self.entries.get(wanted[0])
-            if wanted in seen or entry is None:
-                continue
-            part = seen[wanted] = entry.part(wanted[1])
-            for reference in part.references if part else ():
-                if reference.symbol.kind == "message":
-                    left.append((reference.symbol.name, reference.attribute))
-        return [part for part in seen.values() if part]
-
     def variables(self, key: str, attribute: str | None) -> list[Variable]:
         """The variables that a message is shown with, directly or by a message that it refers to."""
+        named = key, attribute
+        if named not in self._variables:
+            self._walk(named)
+        return list(self._variables[named].values())
+
+    def _walk(self, first: Named) -> None:
+        """Collects the variables of a pattern and of those that it refers to, each once. Patterns that refer to each
+        other in a circle have the same variables. (This is Tarjan's algorithm, without recursion.)"""
+        numbers: dict[Named, int] = {}
+        lowest: dict[Named, int] = {}
+        waiting: list[Named] = []
+        path = [(first, iter(self._references(first)))]
+        numbers[first] = lowest[first] = 0
+        waiting.append(first)
+        while path:
+            named, left = path[-1]
+            follows = next(left, None)
+            if follows is None:
+                path.pop()
+                if path:
+                    above = path[-1][0]
+                    lowest[above] = min(lowest[above], lowest[named])
+                if lowest[named] == numbers[named]:
+                    self._collect(waiting, named)
+            elif follows not in self._variables and follows not in numbers:
+                numbers[follows] = lowest[follows] = len(numbers)
+                waiting.append(follows)
+                path.append((follows, iter(self._references(follows))))
+            elif follows not in self._variables:
+                lowest[named] = min(lowest[named], numbers[follows])
+
+    def _collect(self, waiting: list[Named], first: Named) -> None:
+        """Merges the variables of a circle of patterns, which are the last that wait, with those that it refers to."""
+        circle = [waiting.pop()]
+        while circle[-1] != first:
+            circle.append(waiting.pop())
+        circle.reverse()
         found: dict[str, Variable] = {}
-        for part in self.shown(key, attribute):
-            for name in part.variables():
-                variable = found.setdefault(name, Variable(name))
-                variable.is_number = variable.is_number or name in part.numbers
-            for select in part.selects:
-                if select.variable in found:
-                    variable = found[select.variable]
-                    variable.keys += [each for each in select.keys if each not in variable.keys]
-                    variable.is_number = variable.is_number or select.is_number
-                    variable.is_ordinal = variable.is_ordinal or select.is_ordinal
-        return list(found.values())
+        for named in circle:
+            part = self._part(named)
+            if part:
+                _add(found, part)
+        for named in circle:
+            for follows in self._references(named):
+                for variable in self._variables.get(follows, {}).values():
+                    found[variable.name] = variable.merged(found.get(variable.name))
+        for named in circle:
+            self._variables[named] = found
+
+    def _part(self, named: Named) -> Part | None:
+        entry = self.entries.get(named[0])
+        return entry.part(named[1]) if entry else None
+
+    def _references(self, named: Named) -> list[Named]:
+        """The patterns of messages that a pattern refers to."""
+        part = self._part(named)
+        return [
+            (each.symbol.name, each.attribute)
+            for each in (part.references if part else ())
+            if each.symbol.kind == "message"
+        ]
 
     def cases(self, key: str, attribute: str | None, locale: str) -> list[Case]:
         """Arguments for each variant that a message has; one case without a label if it chooses none."""

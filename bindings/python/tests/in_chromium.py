@@ -2,11 +2,13 @@
 
 import json
 import os
+import tempfile
 import threading
 import unittest
 from pathlib import Path
 
 from kozhvadi.playground._pages import Playground
+from kozhvadi.playground._project import Project
 
 from .chromium import Browser
 from .test_playground import contrast
@@ -73,7 +75,8 @@ class PageTest(unittest.TestCase):
     @classmethod
     def setUpClass(cls):
         cls.given = {"source": "", "reference": "", "locale": "en"}
-        cls.server = Playground(0, lambda: cls.given)
+        cls.started = None
+        cls.server = Playground(0, lambda: cls.started() if cls.started else dict(cls.given))
         threading.Thread(target=cls.server.serve_forever, args=(0.01,), daemon=True).start()
         cls.browser = Browser()
 
@@ -92,6 +95,7 @@ class PageTest(unittest.TestCase):
         self.assertEqual(self.browser.problems, [])
 
     def begin(self, source="", reference="", locale="en", fragment=""):
+        self.given.clear()
         self.given.update(source=source, reference=reference, locale=locale)
         self.browser.go("about:blank")
         self.browser.go(self.server.address + fragment)
@@ -228,6 +232,117 @@ class PageTest(unittest.TestCase):
         )
         self.wait("document.querySelector('.text')?.textContent === '<b>bold</b>'")
 
+    def test_a_damaged_link_is_named_until_another_text_is_there(self):
+        self.given.clear()
+        self.given.update(source="other = x\n", reference="", locale="en")
+        self.browser.go("about:blank")
+        self.browser.go(f"{self.server.address}#damaged")
+        self.wait("state.seen !== null && document.querySelector('.text').textContent === 'x'")
+        words = "The link is damaged, so the page begins anew."
+        self.assertEqual(self.browser.run("document.getElementById('problem').textContent"), words)
+        self.assertEqual(self.browser.run("location.hash"), "#damaged")
+        self.browser.run("document.getElementById('source').focus()")
+        self.browser.type("more = y\n")
+        self.wait("document.getElementById('problem').hidden && location.hash !== '#damaged'")
+
+    def project(self, files, references=None, writes=False):
+        """Shows the files of a folder."""
+        folder = tempfile.TemporaryDirectory()
+        self.addCleanup(folder.cleanup)
+        root = Path(folder.name)
+        for language, texts in (("pl", files), ("en", references or {})):
+            for name, text in texts.items():
+                (root / language).mkdir(exist_ok=True)
+                (root / language / name).write_text(text, encoding="utf-8")
+        read = lambda: Project.read([root / "pl"], [root / "en"] if references else [])
+
+        def start():
+            project = read()
+            name = next(iter(project.files))
+            texts = {"source": project.files[name], "reference": project.references.get(name, "")}
+            return {**texts, "project": project, "name": name, "locale": "pl", "writes": writes}
+
+        self.addCleanup(setattr, type(self), "started", None)
+        type(self).started = staticmethod(start)
+        self.browser.go("about:blank")
+        self.browser.go(self.server.address)
+        self.wait("state.seen !== null && state.name")
+        return root / "pl"
+
+    def test_a_folder(self):
+        main = "a = { -brand } { -none }\n"
+        root = self.project({"main.ftl": main, "terms.ftl": "-brand = Lis\n"}, {"main.ftl": "a = { -brand }\nb = B\n"})
+        self.wait("document.querySelector('.text').textContent.startsWith('Lis ')")
+        self.assertEqual(self.texts("#file option"), ["main.ftl (1 error)", "terms.ftl"])
+        self.assertEqual(self.texts("#missing .severity"), ["warning"])
+        choose = "document.getElementById('file').value = '{}'; document.getElementById('file').dispatchEvent(new Event('change'))"
+        self.browser.run(choose.format("terms.ftl"))
+        self.wait("document.getElementById('source').value === '-brand = Lis\\n' && state.shown === state.asked")
+        self.browser.run("document.getElementById('source').focus()")
+        self.browser.type("-none = N\n")
+        self.wait("document.querySelector('#file option').textContent === 'main.ftl'")
+        self.browser.run(choose.format("main.ftl"))
+        self.wait("document.querySelector('.text')?.textContent === 'Lis N'")
+        self.assertEqual((root / "terms.ftl").read_text(encoding="utf-8"), "-brand = Lis\n")
+        # What was typed would be lost, so the browser asks: here it doesn't have to.
+        self.browser.run("state.others = {}")
+
+    def test_files_are_read_again_when_the_page_is_loaded(self):
+        root = self.project({"main.ftl": "a = one\n"})
+        (root / "main.ftl").write_text("a = two\n", encoding="utf-8")
+        self.browser.run("location.reload()")
+        self.wait("document.querySelector('.text')?.textContent === 'two'")
+        self.assertEqual(self.browser.run("location.hash"), "")
+
+    def test_saving(self):
+        root = self.project({"main.ftl": "a = one\n"}, writes=True)
+        self.browser.run("document.getElementById('source').focus()")
+        self.browser.type("b = x\n")
+        self.wait("!document.getElementById('save').disabled")
+        self.browser.run("document.getElementById('save').click()")
+        self.wait("document.getElementById('save').disabled")
+        self.assertEqual((root / "main.ftl").read_text(encoding="utf-8"), "b = x\na = one\n")
+        self.assertEqual(self.browser.run("Object.keys(state.others).length"), 0)
+
+    def test_a_long_file(self):
+        """Of 2,000 messages those near the caret are shown, and of the lines those that are seen are laid out."""
+        source = "".join(f"# Of {n}.\nmessage-{n} = Text {n} {{ $name }} {'long ' * 40}\n\n" for n in range(2_000))
+        self.begin(source.replace("{ $name } long", "{ -none } long", 1))
+        self.assertTrue(self.browser.run("document.querySelector('.editor').classList.contains('long')"))
+        lines = "document.querySelector('.stack pre').children.length"
+        self.assertLess(self.browser.run(lines), 100)
+        # The page doesn't scroll: each side does.
+        self.assertLessEqual(self.browser.run("document.documentElement.scrollHeight"), 900)
+        self.assertEqual(self.texts("u.error"), ["-none"])
+        self.assertIn("1800 more messages", self.texts(".nothing")[0])
+        place = source.index("message-1500 ")
+        self.browser.run(f"select($('source'), {place}, {place})")
+        self.wait("[...document.querySelectorAll('.stack pre > div')].some((each) => each.textContent.startsWith('message-1500 '))")
+        self.wait("document.querySelector('.message.current')?.dataset.id === 'message-1500'")
+        # The line that is seen is where the typed one is: its number in lines, from the top of the field.
+        top = "Math.round(document.querySelector('.stack pre').getBoundingClientRect().top - $('source').getBoundingClientRect().top + $('source').scrollTop)"
+        number = self.browser.run("Number(document.querySelector('.stack pre').style.counterReset.split(' ')[1])")
+        self.assertEqual(self.browser.run(top), number * 23)
+        self.assertEqual(self.browser.run("document.querySelector('.stack pre').firstChild.textContent.trimEnd()"), source.split("\n")[number])
+        for letter in "quick":
+            self.browser.type(letter)
+        self.wait("document.querySelector('.message.current')?.dataset.id === 'quickmessage-1500'")
+        self.assertLess(self.browser.run(lines), 100)
+        self.browser.run("$('source').scrollTo(300, 0)")
+        self.wait("document.querySelector('.stack pre').firstChild.textContent === '# Of 0.\\n'")
+        self.assertIn("translate(-300px", self.browser.run("document.querySelector('.stack pre').style.transform"))
+        self.browser.size(400, 800)
+        self.assertLessEqual(self.browser.run("document.documentElement.scrollWidth"), 400)
+
+    def test_lines_are_indented_in_a_select(self):
+        self.begin()
+        self.browser.run("document.getElementById('source').focus()")
+        self.browser.type("a = { $n ->")
+        self.browser.press("Enter")
+        self.browser.type("[one] x")
+        self.browser.press("Enter")
+        self.assertEqual(self.browser.run("$('source').value"), "a = { $n ->\n    [one] x\n    ")
+
     def test_tidying(self):
         self.begin("a   =   {$x}\n")
         self.browser.run("document.getElementById('tidy').click()")
@@ -313,6 +428,19 @@ class PageTest(unittest.TestCase):
         self.browser.size(400, 800)
         self.browser.run("document.getElementById('results').scrollIntoView()")
         self.picture("playground-small.png")
+
+    def test_the_first_text_is_seen_while_one_types_in_a_small_window(self):
+        self.begin(POLISH, ENGLISH, "pl")
+        self.browser.size(400, 800)
+        self.browser.run("scrollTo(0, 0)")
+        self.assertLess(self.browser.run("document.querySelector('.text').getBoundingClientRect().bottom"), 800)
+
+    def test_long_names_stay_in_a_small_window(self):
+        name = "x" * 70
+        self.begin(f"{name} = {{ ${name} }} {{ -{name} }}\n    .{name} = {{ {name}y }}\n-{name}z = T\n")
+        for width in (400, 320):
+            self.browser.size(width, 800)
+            self.assertLessEqual(self.browser.run("document.documentElement.scrollWidth"), width)
 
     def test_contrast_in_both_themes(self):
         for theme in ("light", "dark"):

@@ -4,12 +4,11 @@ import json
 import os
 import shutil
 import subprocess
-import sys
 import tempfile
 import unittest
 from pathlib import Path
 
-from .in_neovim import GUIDE
+from .in_neovim import GUIDE, with_server
 
 HERE = Path(__file__).resolve().parent
 EDITORS = HERE.parents[2] / "editors"
@@ -46,11 +45,7 @@ class EmacsTest(unittest.TestCase):
                 path.write_text(text, encoding="utf-8")
             (folder / "l10n/pl/link.ftl").symlink_to("main.ftl")
             guide.write_text(lines_of_the_guide(), encoding="utf-8")
-            server = Path(made, "bin/kozhvadi-server")
-            server.parent.mkdir()
-            server.write_text(f'#!/bin/sh\nexec "{sys.executable}" -m kozhvadi.server "$@"\n', encoding="utf-8")
-            server.chmod(0o755)
-            env = {"PYTHONPATH": str(HERE.parent), "PATH": f"{server.parent}:{os.environ['PATH']}", "HOME": made}
+            env = {**with_server(made), "HOME": made}
             env |= {"FOLDER": str(folder), "OUT": str(out), "GUIDE": str(guide), "LANG": "C.UTF-8"}
             ran = subprocess.run(
                 ["emacs", "--batch", "-l", str(HERE / "in_emacs.el")],

@@ -30,6 +30,15 @@ def lines_of_the_guide():
     return "".join(f"{line[4:]}\n" for line in section.split("\n") if line.startswith("    "))
 
 
+def with_server(folder):
+    """The variables of an environment with the command `kozhvadi-server`, which is made in a folder."""
+    server = Path(folder, "bin/kozhvadi-server")
+    server.parent.mkdir()
+    server.write_text(f'#!/bin/sh\nexec "{sys.executable}" -m kozhvadi.server "$@"\n', encoding="utf-8")
+    server.chmod(0o755)
+    return {"PYTHONPATH": str(HERE.parent), "PATH": f"{server.parent}:{os.environ['PATH']}"}
+
+
 def without_hint(found):
     """Findings without the hints in parentheses."""
     return [[line, column, text.partition(" (")[0]] for line, column, text in found]
@@ -48,12 +57,8 @@ class NeovimTest(unittest.TestCase):
             (folder / "l10n/pl/link.ftl").symlink_to("main.ftl")
             guide = Path(made, "guide.lua")
             guide.write_text(lines_of_the_guide(), encoding="utf-8")
-            server = Path(made, "bin/kozhvadi-server")
-            server.parent.mkdir()
-            server.write_text(f'#!/bin/sh\nexec "{sys.executable}" -m kozhvadi.server "$@"\n', encoding="utf-8")
-            server.chmod(0o755)
             set_up = f"lua FOLDER, GUIDE, OUT = [[{folder}]], [[{guide}]], [[{out}]]"
-            home = {"PYTHONPATH": str(HERE.parent), "PATH": f"{server.parent}:{os.environ['PATH']}"}
+            home = with_server(made)
             home |= {
                 "HOME": made,
                 "XDG_CONFIG_HOME": made,

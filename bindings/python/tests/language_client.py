@@ -26,9 +26,9 @@ def framed(message):
 class Client:
     """A running server, which is killed if it takes longer than its patience, in seconds."""
 
-    def __init__(self, log=subprocess.DEVNULL, patience=300):
+    def __init__(self, *words, log=subprocess.DEVNULL, patience=300):
         self.process = subprocess.Popen(
-            [sys.executable, "-m", "kozhvadi.server"],
+            [sys.executable, "-m", "kozhvadi.server", *words],
             stdin=subprocess.PIPE,
             stdout=subprocess.PIPE,
             stderr=log,

@@ -15,7 +15,7 @@ from pathlib import Path
 
 from .chromium import Browser
 from .in_chromium import ENGLISH, POLISH
-from .in_neovim import HERE, lines_of_the_guide
+from .in_neovim import lines_of_the_guide, with_server
 
 COLUMNS, ROWS = 100, 16
 
@@ -41,8 +41,7 @@ span { padding: .2em 0; }
 def shown(folder):
     """What the terminal shows, once the findings and the texts of a message are there."""
     tmux = ["tmux", "-f", "/dev/null", "-L", f"picture-{os.getpid()}"]
-    home = {"HOME": str(folder), "PYTHONPATH": str(HERE.parent), "TERM": "xterm-256color", "LC_ALL": "C.UTF-8"}
-    home["PATH"] = f"{Path(sys.executable).parent}:{os.environ['PATH']}"
+    home = {**with_server(folder), "HOME": str(folder), "TERM": "xterm-256color", "LC_ALL": "C.UTF-8"}
     words = ["new-session", "-d", "-x", str(COLUMNS), "-y", str(ROWS), "nvim -u init.lua -i NONE -n l10n/pl/main.ftl"]
     subprocess.run([*tmux, *words], cwd=folder, env={**os.environ, **home}, check=True)
     try:

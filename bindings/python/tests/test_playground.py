@@ -11,25 +11,23 @@ import subprocess
 import sys
 import tempfile
 import threading
+import time
 import unittest
 import urllib.request
 from html.parser import HTMLParser
 from pathlib import Path
 
-from kozhvadi.playground._looking import languages, looked_at
+from kozhvadi.playground._looking import Asked, languages, looked_at
 from kozhvadi.playground._pages import Playground
+from kozhvadi.playground._project import Project
 
 FOLDER = Path(__file__).resolve().parents[1]
 ROOT = FOLDER.parents[1]
 PAGES = FOLDER / "kozhvadi" / "playground"
 
 
-class ServedTest(unittest.TestCase):
-    def setUp(self):
-        self.server = Playground(0, lambda: {"source": "a = b\n", "reference": "", "locale": "en"})
-        self.addCleanup(self.server.server_close)
-        self.addCleanup(self.server.shutdown)
-        threading.Thread(target=self.server.serve_forever, args=(0.01,), daemon=True).start()
+class AskingCase(unittest.TestCase):
+    """Tests of `self.server`."""
 
     def ask(self, method, path, body=None, **headers):
         """The status of an answer, its headers and its body."""
@@ -52,6 +50,14 @@ class ServedTest(unittest.TestCase):
     def look(self, **given):
         status, _, body = self.ask("POST", "/look", json.dumps(given).encode())
         return status, json.loads(body) if status == 200 else body
+
+
+class ServedTest(AskingCase):
+    def setUp(self):
+        self.server = Playground(0, lambda: {"source": "a = b\n", "reference": "", "locale": "en"})
+        self.addCleanup(self.server.server_close)
+        self.addCleanup(self.server.shutdown)
+        threading.Thread(target=self.server.serve_forever, args=(0.01,), daemon=True).start()
 
     def test_the_pages(self):
         for path, kind in [
@@ -116,9 +122,10 @@ class ServedTest(unittest.TestCase):
             "/page.css/..",
             "/look",
             "/etc/passwd",
-            "file:///etc/passwd",
         ):
             self.assertEqual(self.ask("GET", path)[0], 404, path)
+        for path in ("file:///etc/passwd", "http://example.org/start"):
+            self.assertEqual(self.ask("GET", path)[0], 421, path)
         for path in ("/", "/page.js", "/start", "/nothing"):
             self.assertEqual(self.ask("POST", path, b"{}")[0], 404, path)
         self.assertEqual(self.ask("PUT", "/look", b"{}")[0], 501)
@@ -145,6 +152,39 @@ class ServedTest(unittest.TestCase):
                 )[0],
                 411,
             )
+
+    def test_what_the_class_refuses_has_the_headers_of_all_answers(self):
+        status, headers, _ = self.ask("TRACE", "/")
+        self.assertEqual((status, headers["X-Content-Type-Options"]), (501, "nosniff"))
+        self.assertIn("default-src 'none'", headers["Content-Security-Policy"])
+
+    def test_the_start_is_for_the_page_alone(self):
+        for site, status in (("cross-site", 403), ("same-site", 403), ("same-origin", 200), ("none", 200)):
+            self.assertEqual(self.ask("GET", "/start", **{"Sec-Fetch-Site": site})[0], status, site)
+        self.assertEqual(self.ask("GET", "/", **{"Sec-Fetch-Site": "cross-site"})[0], 200)
+
+    def test_two_lengths(self):
+        connection = http.client.HTTPConnection("127.0.0.1", self.server.server_port, timeout=30)
+        connection.putrequest("POST", "/look")
+        connection.putheader("Content-Type", "application/json")
+        for length in ("2", "3"):
+            connection.putheader("Content-Length", length)
+        connection.endheaders(b"{}")
+        self.assertEqual(connection.getresponse().status, 411)
+        connection.close()
+
+    def test_no_page_waits_for_another(self):
+        """Slow requests of one page leave the others their time: each request has a thread, and there is no lock."""
+        slow = json.dumps({"source": "".join(f"m{n} = {{ m{n + 1} }}\n" for n in range(60_000))}).encode()
+        threads = [threading.Thread(target=self.ask, args=("POST", "/look", slow)) for _ in range(2)]
+        begun = time.monotonic()
+        for each in threads:
+            each.start()
+        self.assertEqual(self.look(source="a = b\n")[0], 200)
+        quick = time.monotonic() - begun
+        for each in threads:
+            each.join()
+        self.assertLess(quick, (time.monotonic() - begun) / 2)
 
     def test_tidying(self):
         status, _, body = self.ask("POST", "/tidy", b'{"source": "a   =   {$x}"}')
@@ -191,13 +231,106 @@ class ServedTest(unittest.TestCase):
                     self.assertTrue(0 <= each["start"] <= each["end"] <= units)
 
 
+class ProjectTest(AskingCase):
+    """A server that shows the files of a folder."""
+
+    FILES = {"main.ftl": "a = { -brand }\nb = B\n", "sub/terms.ftl": "-brand = Lis\nb = x\n"}
+
+    def setUp(self):
+        folder = tempfile.TemporaryDirectory()
+        self.addCleanup(folder.cleanup)
+        self.root = Path(folder.name)
+        for language in ("pl", "en"):
+            for name, text in self.FILES.items():
+                path = self.root / language / name
+                path.parent.mkdir(parents=True, exist_ok=True)
+                path.write_text(text, encoding="utf-8")
+        (self.root / "en/main.ftl").write_text("a = { -brand }\nc = C\n", encoding="utf-8")
+        self.given = {"locale": "pl", "name": "main.ftl", "source": "a = b\n", "reference": "", "writes": True}
+        self.server = Playground(0, self.begin)
+        self.addCleanup(self.server.server_close)
+        self.addCleanup(self.server.shutdown)
+        threading.Thread(target=self.server.serve_forever, args=(0.01,), daemon=True).start()
+        self.start = json.loads(self.ask("GET", "/start")[2])
+
+    def begin(self):
+        return {**self.given, "project": Project.read([self.root / "pl"], [self.root / "en"])}
+
+    def test_files_are_loaded_together(self):
+        self.assertEqual(self.start["files"], self.FILES)
+        asked = {"source": self.FILES["main.ftl"], "reference": self.start["references"]["main.ftl"], "locale": "pl"}
+        _, told = self.look(name="main.ftl", **asked)
+        self.assertEqual(told["messages"][0]["parts"][0]["text"], "Lis")
+        self.assertEqual([each["code"] for each in told["findings"]], ["untranslated", "missing-message"])
+        self.assertEqual(told["counts"]["sub/terms.ftl"]["error"], 1)
+        # Another text of another file, and a file that isn't one of them.
+        _, told = self.look(name="main.ftl", others={"sub/terms.ftl": "-brand = Wilk\n"}, **asked)
+        self.assertEqual(told["messages"][0]["parts"][0]["text"], "Wilk")
+        _, told = self.look(name="none.ftl", **asked)
+        self.assertEqual(told["messages"][0]["parts"][0]["errors"], ["Unknown term: -brand"])
+
+    def test_they_are_read_again(self):
+        (self.root / "pl/main.ftl").write_text("a = new\n", encoding="utf-8")
+        self.assertEqual(json.loads(self.ask("GET", "/start")[2])["files"]["main.ftl"], "a = new\n")
+
+    def save(self, **given):
+        status, _, body = self.ask("POST", "/save", json.dumps(given).encode())
+        return status, json.loads(body) if status == 200 else body.decode()
+
+    def test_saving(self):
+        path = self.root / "pl/sub/terms.ftl"
+        path.chmod(0o640)
+        self.assertEqual(self.save(name="sub/terms.ftl", source="-brand = Ż\n"), (200, {"saved": "sub/terms.ftl"}))
+        self.assertEqual((path.read_text(encoding="utf-8"), path.stat().st_mode & 0o777), ("-brand = Ż\n", 0o640))
+        self.assertEqual(sorted(each.name for each in path.parent.iterdir()), ["terms.ftl"])
+        for name in ("../en/main.ftl", "/etc/passwd", "", "none.ftl"):
+            self.assertEqual(self.save(name=name, source="x")[0], 404, name)
+        path.write_text("-brand = other\n", encoding="utf-8")
+        told = self.save(name="sub/terms.ftl", source="x")[1]["problem"]
+        self.assertIn("has changed since the page was loaded", told)
+        self.assertEqual(path.read_text(encoding="utf-8"), "-brand = other\n")
+
+    def test_nothing_is_saved_unless_it_was_asked_for(self):
+        self.given["writes"] = False
+        self.ask("GET", "/start")
+        self.assertEqual(self.save(name="main.ftl", source="x")[0], 403)
+        self.assertEqual((self.root / "pl/main.ftl").read_text(encoding="utf-8"), self.FILES["main.ftl"])
+
+
+class ReadTest(unittest.TestCase):
+    def test_what_cant_be_shown(self):
+        with tempfile.TemporaryDirectory() as made:
+            with self.assertRaisesRegex(ValueError, "there is no .ftl file"):
+                Project.read([Path(made)], [])
+            for name in ("one.ftl", ".hidden/two.ftl"):
+                path = Path(made, name)
+                path.parent.mkdir(exist_ok=True)
+                path.write_text("a = b\n", encoding="utf-8")
+            project = Project.read([Path(made)], [Path(made, "one.ftl")])
+            self.assertEqual((list(project.files), list(project.references)), (["one.ftl"], ["one.ftl"]))
+
+
 class LookedAtTest(unittest.TestCase):
+    def test_a_chain_of_references(self):
+        source = "".join(f"m{number} = {{ m{number + 1} }}\n" for number in range(10_000)) + "m10000 = { $y }\n"
+        begun = time.monotonic()
+        told = looked_at(Asked(source))
+        self.assertLess(time.monotonic() - begun, 10)
+        self.assertEqual([each["name"] for each in told["messages"][0]["parts"][0]["variables"]], ["y"])
+
+    def test_messages_near_the_caret(self):
+        source = "".join(f"m{number} = x\n" for number in range(1_000))
+        for place, first in ((0, 0), (source.index("m500 "), 400), (len(source), 800)):
+            told = looked_at(Asked(source, at=place))
+            self.assertEqual((told["messages"][0]["id"], told["messages"][0]["line"]), (f"m{first}", first + 1))
+            self.assertEqual(len(told["messages"]), 200)
+
     def test_messages(self):
         source = (
             "# Hi.\nwelcome = { $name } in { -brand }\n    .title = T\n-brand = B\nunread = { $n ->\n    [one] one\n    [few] { $n } few\n"
             "   *[other] { $n } other\n}\nbroken = { $\nwrong = { no }\n"
         )
-        told = looked_at(source, "", "pl", {"name": "Zoë", "n": "2"})
+        told = looked_at(Asked(source, locale="pl", arguments={"name": "Zoë", "n": "2"}))
         self.assertEqual(told["categories"], {"one": "1", "few": "2", "many": "5", "other": "1.5"})
         welcome, unread, broken, wrong = told["messages"]
         self.assertEqual((welcome["comment"], welcome["line"]), ("Hi.", 2))
@@ -218,7 +351,7 @@ class LookedAtTest(unittest.TestCase):
         self.assertEqual(found, {("syntax", 10), ("missing-category", 5), ("unknown-message", 11)})
 
     def test_a_reference(self):
-        told = looked_at("\U0001f44d\na = { $nmae }\n", "a = { $name }\nb = B\n", "de", {})
+        told = looked_at(Asked("\U0001f44d\na = { $nmae }\n", "a = { $name }\nb = B\n", "de"))
         found = [
             (each["file"], each["code"], each["start"], each["end"])
             for each in told["findings"]
@@ -236,9 +369,9 @@ class LookedAtTest(unittest.TestCase):
         self.assertEqual(fixes, [{"title": "Change to `$name`", "start": 9, "end": 14, "text": "$name"}])
 
     def test_too_much(self):
-        told = looked_at("".join(f"m{number} = x\n" for number in range(300)), "", "en", {})
+        told = looked_at(Asked("".join(f"m{number} = x\n" for number in range(300))))
         self.assertEqual((len(told["messages"]), told["more"]), (200, 100))
-        self.assertIn("nests too deep", looked_at("a = " + "{" * 5000, "", "en", {})["problem"])
+        self.assertIn("nests too deep", looked_at(Asked("a = " + "{" * 5000))["problem"])
 
     def test_languages(self):
         self.assertLess({"en", "pl", "ar", "zh", "pt-PT"}, set(languages()))
@@ -266,10 +399,16 @@ class LookedAtTest(unittest.TestCase):
         with tempfile.TemporaryDirectory() as made:
             bad = Path(made, "bad.ftl")
             bad.write_bytes(b"\xff")
+            Path(made, "empty").mkdir()
+            other = Playground(0, dict)
+            self.addCleanup(other.server_close)
+            taken = other.server_port
             for words, told in [
                 ([made + "/none.ftl"], "No such file"),
                 ([str(bad)], "isn't UTF-8"),
                 (["--port", "99999"], "port"),
+                (["--port", str(taken)], f"port {taken} is in use: name another one, or --port 0"),
+                ([made + "/empty"], "there is no .ftl file"),
                 (["--locale", "xx"], "no plural rules"),
             ]:
                 ran = subprocess.run(

@@ -222,8 +222,8 @@ class CancelTest(ExpectedCase):
 class EncodingTest(ExpectedCase):
     SOURCE = "a = ż\U0001f44d { b }\nb = x\n"
 
-    def place_of_b(self, encodings):
-        client = self.client = self.entered(Client())
+    def place_of_b(self, encodings, *words):
+        client = self.client = self.entered(Client(*words))
         can = client.start(self.root, capabilities={"general": {"positionEncodings": encodings}})["capabilities"]
         uri = client.open(self.root / "pl.ftl", self.SOURCE)
         places = client.ask(
@@ -238,6 +238,9 @@ class EncodingTest(ExpectedCase):
         self.assertEqual(self.place_of_b(["utf-8", "utf-16"]), ("utf-8", 13))
         self.assertEqual(self.place_of_b(["utf-16", "utf-8"]), ("utf-16", 10))
         self.assertEqual(self.place_of_b(["utf-32"]), ("utf-16", 10))
+
+    def test_a_client_that_counts_bytes_unasked(self):
+        self.assertEqual(self.place_of_b([], "--utf-8"), ("utf-8", 13))
 
 
 class ParentTest(ExpectedCase):

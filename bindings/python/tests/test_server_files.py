@@ -268,7 +268,11 @@ class UnreadTest(WorkspaceCase):
                 uri = self.client.open(self.root / "l10n/pl/main.ftl", self.SOURCE)
                 unread, variable = self.client.diagnostics(uri)
                 self.assertEqual(self.found([unread]), [("unread-file", 2, 0, 0)])
-                self.assertEqual(unread["message"], f"l10n/pl/terms.ftl {why}, so its entries are unknown")
+                words = f"l10n/pl/terms.ftl {why}, so its entries are unknown"
+                self.assertEqual(unread["message"], words)
+                self.client.tell("textDocument/didSave", textDocument={"uri": uri})
+                self.client.diagnostics(uri)
+                self.assertEqual(self.shown(), [f"kozhvadi: {words}"])
                 self.assertEqual(variable["code"], "unknown-variable")
                 told = self.client.ask("textDocument/rename", newName="x", **at(uri, self.SOURCE, "a ="))
                 self.assertEqual(told["code"], -32803)

@@ -3,6 +3,8 @@
 from __future__ import annotations
 
 import argparse
+import errno
+import re
 import sys
 import webbrowser
 from pathlib import Path
@@ -11,9 +13,13 @@ from typing import Any
 from .._samples import has_rules
 from . import __doc__ as about
 from ._pages import Playground
+from ._project import Project
 
 # Links to the page keep their address if it has the same port each time.
 _PORT = 8137
+
+# Names of folders that are languages.
+_TAG = re.compile(r"[a-z]{2,3}(?:[-_][A-Za-z]{2,4})?")
 
 _EXAMPLE = """\
 # Try it: change a text, a variable, or the language above.
@@ -34,15 +40,25 @@ settings = Settings
 
 def _words() -> argparse.Namespace:
     parser = argparse.ArgumentParser(prog="python3 -m kozhvadi.playground", description=about)
-    parser.add_argument("file", nargs="?", type=Path, help="a file that the page shows at first; it isn't changed")
-    parser.add_argument("--reference", type=Path, help="the file that it is a translation of")
-    parser.add_argument("--locale", default="en", help="the language, such as pl; without it, en")
+    parser.add_argument("path", nargs="*", type=Path, help="files that the page shows, or folders of them")
+    parser.add_argument(
+        "--reference", action="append", default=[], type=Path, help="the file or folder that they are a translation of"
+    )
+    parser.add_argument("--write", action="store_true", help="the page has a button that saves a file")
+    parser.add_argument("--locale", help="the language, such as pl; without it, that of a folder's name, or else en")
     parser.add_argument("--port", type=int, default=_PORT, help=f"{_PORT} without it; 0 is any that is free")
     parser.add_argument("--open", action="store_true", help="open the page in a browser")
     words = parser.parse_args()
+    words.locale = words.locale or _guessed(words.path)
     if not has_rules(words.locale):
         parser.error(f"the locale {words.locale!r} has no plural rules")
     return words
+
+
+def _guessed(paths: list[Path]) -> str:
+    """The language that a folder of these paths is named by."""
+    names = [each.name for path in paths for each in (path, *path.parents)]
+    return next((name for name in names if _TAG.fullmatch(name) and has_rules(name)), "en")
 
 
 def main() -> int:
@@ -50,17 +66,25 @@ def main() -> int:
 
     def start() -> dict[str, Any]:
         """What the page shows at first. The files that were named are read, and no others."""
+        project = Project.read(words.path, words.reference)
+        name = next(iter(project.files), "")
+        only = next(iter(project.references.values()), "")
         return {
-            "source": _text(words.file) if words.file else _EXAMPLE,
-            "reference": _text(words.reference) if words.reference else "",
+            "source": project.files.get(name, _EXAMPLE),
+            "reference": project.references.get(name, "" if project.files else only),
             "locale": words.locale,
+            "name": name,
+            "writes": words.write and bool(project.files),
+            "project": project,
         }
 
     try:
         start()
         server = Playground(words.port, start)
     except (OSError, ValueError, OverflowError) as error:
-        print(f"kozhvadi.playground: {error}", file=sys.stderr)
+        in_use = isinstance(error, OSError) and error.errno == errno.EADDRINUSE
+        why = f"port {words.port} is in use: name another one, or --port 0 for any that is free" if in_use else error
+        print(f"kozhvadi.playground: {why}", file=sys.stderr)
         return 1
     print(f"{server.address} shows the page, on this machine alone. Ctrl-C ends it.", flush=True)
     if words.open:
@@ -72,14 +96,6 @@ def main() -> int:
     finally:
         server.server_close()
     return 0
-
-
-def _text(path: Path) -> str:
-    """The text of a file. Raises `OSError` if it can't be read, and `ValueError` if it isn't UTF-8."""
-    try:
-        return path.read_bytes().decode()
-    except UnicodeDecodeError as error:
-        raise ValueError(f"{path} isn't UTF-8: {error}") from error
 
 
 if __name__ == "__main__":

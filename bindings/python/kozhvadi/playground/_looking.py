@@ -3,7 +3,10 @@
 from __future__ import annotations
 
 import re
+from collections import Counter
 from collections.abc import Iterable
+from dataclasses import dataclass, field
+from functools import lru_cache
 from typing import Any
 
 from .._bundle import Bundle
@@ -17,13 +20,12 @@ from .._values import Number
 
 Json = dict[str, Any]
 
-# More messages and findings aren't shown.
+# More messages and findings aren't shown: of messages those near the caret are.
 _MOST = 200
 
 # To look for near names takes longest, so only this many findings have fixes.
 _MENDED = 20
 
-_SOURCE, _REFERENCE = "source.ftl", "reference.ftl"
 _NUMBER = re.compile(r"-?[0-9]{1,19}(?:\.[0-9]{1,18})?")
 
 # The languages that the page offers, of which those without plural rules are left out.
@@ -39,26 +41,66 @@ def languages() -> list[str]:
     return [tag for tag in _LANGUAGES if has_rules(tag)]
 
 
-def looked_at(source: str, reference: str, locale: str, arguments: dict[str, str]) -> Json:
-    """What the page shows of a source in a language, with these arguments by the names of their variables."""
-    places, compared = Places(source.encode()), Places(reference.encode())
-    found: Json = {"locale": known(locale), "rules": has_rules(locale), "problem": None}
+@dataclass
+class Asked:
+    """What a page asks about: the file that it shows, in a language, with arguments by the names of their variables.
+
+    `others` has the texts of the files that are loaded with it, and `references` those of the reference: the one of the
+    same name is that of the page. `at` is the place of the caret, in code units of UTF-16.
+    """
+
+    source: str
+    reference: str = ""
+    locale: str = "en"
+    arguments: dict[str, str] = field(default_factory=dict)
+    name: str = "source.ftl"
+    others: dict[str, str] = field(default_factory=dict)
+    references: dict[str, str] = field(default_factory=dict)
+    at: int = 0
+
+
+def looked_at(asked: Asked) -> Json:
+    """What the page shows of a file."""
+    files = dict(sorted({**asked.others, asked.name: asked.source}.items()))
+    references = {f"reference/{name}": text for name, text in asked.references.items()}
+    compared_name = f"reference/{asked.name}"
+    if asked.reference.strip() or compared_name in references:
+        references[compared_name] = asked.reference
+    places, compared = _places(asked.source.encode()), _places(asked.reference.encode())
+    locale = asked.locale
+    found: Json = {"locale": known(locale), "rules": has_rules(locale), "problem": None, "counts": {}}
     found["categories"] = _shown(categories(locale))
+    report: list[Finding] = []
+    found["messages"], found["more"] = [], 0
     try:
-        report = lint(
-            {_SOURCE: source},
-            reference={_REFERENCE: reference} if reference.strip() else {},
-            locale=known(locale),
-            notes=bool(reference.strip()),
-        ).findings
-        with Bundle([f"{source}\n"], locale=known(locale)) as bundle:
-            found["messages"] = _messages(bundle, places, locale, arguments)
+        report = lint(files, reference=references, locale=known(locale), notes=bool(references)).findings
+        with Bundle([f"{text}\n" for text in files.values()], locale=known(locale)) as bundle:
+            catalog = Catalog(_places(text.encode()) for text in files.values())
+            found["messages"], found["more"] = _messages(bundle, catalog, places, asked)
     except MemoryError:
-        report, found["messages"] = [], []
-        found["problem"] = "The source nests too deep, so that nothing of it can be read."
-    found["more"] = max(0, sum(not entry.is_term for entry in places.entries) - _MOST)
-    found["findings"] = _findings(report, places, compared)
+        found["problem"] = "A source nests too deep, so that nothing of it can be read."
+    else:
+        found["counts"] = _counts(report, files)
+        of_reference = Catalog(_places(text.encode()) for text in references.values())
+        named = {"source": (asked.name, places), "reference": (compared_name, compared)}
+        found["findings"] = _findings(report, named, catalog, of_reference)
+    found.setdefault("findings", [])
     return found
+
+
+@lru_cache(maxsize=2_000)
+def _places(source: bytes) -> Places:
+    """The places of a source. Those of files that stay as they are are kept."""
+    return Places(source)
+
+
+def _counts(report: list[Finding], files: dict[str, str]) -> dict[str, dict[str, int]]:
+    """How many findings of each severity each file has that has any."""
+    counts: dict[str, Counter[str]] = {}
+    for finding in report:
+        if finding.file in files:
+            counts.setdefault(finding.file, Counter())[finding.severity] += 1
+    return {name: dict(each) for name, each in counts.items()}
 
 
 def tidied(source: str) -> Json:
@@ -73,14 +115,15 @@ def _shown(samples: Any) -> dict[str, str]:
     return {name: str(sample) for name, sample in samples.items()}
 
 
-def _findings(report: list[Finding], places: Places, compared: Places) -> list[Json]:
-    """The findings, with the code units of UTF-16 that they underline."""
-    entries, of_reference = Catalog([places]), Catalog([compared])
+def _findings(
+    report: list[Finding], named: dict[str, tuple[str, Places]], entries: Catalog, of_reference: Catalog
+) -> list[Json]:
+    """The findings of the texts of the page, with the code units of UTF-16 that they underline."""
     told_of = []
-    for file, each in ((_SOURCE, places), (_REFERENCE, compared)):
-        own = sorted((found for found in report if found.file == file), key=lambda found: found.offset)[:_MOST]
+    for file, (name, each) in named.items():
+        own = sorted((found for found in report if found.file == name), key=lambda found: found.offset)[:_MOST]
         extents = [extent(each.source, finding.offset) for finding in own]
-        mended = [fixes(finding, each, entries, of_reference) if file == _SOURCE else [] for finding in own[:_MENDED]]
+        mended = [fixes(finding, each, entries, of_reference) if file == "source" else [] for finding in own[:_MENDED]]
         mended += [[] for _ in own[_MENDED:]]
         wanted = [offset for span in extents for offset in span]
         wanted += [offset for listed in mended for fix in listed for offset in (fix.start, fix.end)]
@@ -89,7 +132,7 @@ def _findings(report: list[Finding], places: Places, compared: Places) -> list[J
             told = {
                 name: getattr(finding, name) for name in ("line", "column", "severity", "code", "entry", "text", "hint")
             }
-            told |= {"file": file.partition(".")[0], "start": units[start], "end": units[end]}
+            told |= {"file": file, "start": units[start], "end": units[end]}
             told["fixes"] = [
                 {"title": fix.title, "start": units[fix.start], "end": units[fix.end], "text": fix.text}
                 for fix in listed
@@ -107,22 +150,27 @@ def _units(source: bytes, offsets: Iterable[int]) -> dict[int, int]:
     return units
 
 
-def _messages(bundle: Bundle, places: Places, locale: str, arguments: dict[str, str]) -> list[Json]:
-    """Each message, the first of each id."""
+def _messages(bundle: Bundle, entries: Catalog, places: Places, asked: Asked) -> tuple[list[Json], int]:
+    """The messages of a file that are near the caret, the first of each id, and how many others there are."""
     # What is wrong with the source is among the findings.
     bundle._hush()
-    entries = Catalog([places])
-    found: list[Json] = []
+    first: dict[str, Entry] = {}
     for entry in places.entries:
-        if not entry.is_term and entries.entries.get(entry.key) is entry and len(found) < _MOST:
-            found.append(_message(bundle, entries, entry, locale, arguments))
-    units = _units(places.source, [entry.start for entry in places.entries] + [entry.end for entry in places.entries])
-    by_key = {entry.key: entry for entry in reversed(places.entries)}
-    for each in found:
-        entry = by_key[each["id"]]
-        each["start"], each["end"] = units[entry.start], units[entry.end]
-        each["line"] = places.source.count(b"\n", 0, entry.start) + 1
-    return found
+        if not entry.is_term:
+            first.setdefault(entry.id, entry)
+    listed = list(first.values())
+    units = _units(places.source, [entry.start for entry in listed] + [entry.end for entry in listed])
+    index = sum(units[entry.end] < asked.at for entry in listed)
+    start = max(0, min(index - _MOST // 2, len(listed) - _MOST))
+    shown = listed[start : start + _MOST]
+    found = []
+    line, at = 1, 0
+    for entry in shown:
+        line += places.source.count(b"\n", at, entry.start)
+        at = entry.start
+        told = _message(bundle, entries, entry, asked.locale, asked.arguments)
+        found.append({**told, "start": units[entry.start], "end": units[entry.end], "line": line})
+    return found, len(listed) - len(shown)
 
 
 def _message(bundle: Bundle, entries: Catalog, entry: Entry, locale: str, arguments: dict[str, str]) -> Json:

@@ -3,7 +3,6 @@
 from __future__ import annotations
 
 import json
-import threading
 from collections.abc import Callable
 from http import HTTPStatus
 from http.server import BaseHTTPRequestHandler, ThreadingHTTPServer
@@ -11,7 +10,8 @@ from importlib.resources import files
 from typing import Any
 from urllib.parse import urlsplit
 
-from ._looking import languages, looked_at, tidied
+from ._looking import Asked, languages, looked_at, tidied
+from ._project import Project
 
 HOST = "127.0.0.1"
 
@@ -47,14 +47,26 @@ class _Refused(Exception):
 
 
 class Playground(ThreadingHTTPServer):
-    """Serves the page on 127.0.0.1. `start` returns what it shows at first; port 0 is any that is free."""
+    """Serves the page on 127.0.0.1. `start` returns what it shows at first; port 0 is any that is free.
+
+    Each request has a thread, and there is no lock: others run while the library reads and lints.
+    """
 
     daemon_threads = True
 
     def __init__(self, port: int, start: Callable[[], dict[str, Any]]) -> None:
         super().__init__((HOST, port), _Handler)
-        self.start = start
-        self.lock = threading.Lock()
+        self._start = start
+        self.project, self.writes = Project(), False
+
+    def begin(self) -> dict[str, Any]:
+        """What the page shows at first. The files are read anew."""
+        started = self._start()
+        project = started.pop("project", None)
+        self.project = project if isinstance(project, Project) else Project()
+        self.writes = started.get("writes") is True
+        files = {"files": self.project.files, "references": self.project.references}
+        return {"name": "", "writes": False, **started, **files, "languages": languages()}
 
     @property
     def address(self) -> str:
@@ -107,15 +119,18 @@ class _Handler(BaseHTTPRequestHandler):
         hosts = {f"{HOST}:{port}", f"localhost:{port}"}
         if self.headers.get_all("Host", []) not in [[host] for host in hosts]:
             raise _Refused(HTTPStatus.MISDIRECTED_REQUEST, f"this server is {self.server.address}")
+        if not self.path.startswith("/"):
+            raise _Refused(HTTPStatus.MISDIRECTED_REQUEST, f"this server is {self.server.address}")
         origin = self.headers.get("Origin")
         if origin is not None and origin not in {f"http://{host}" for host in hosts}:
             raise _Refused(HTTPStatus.FORBIDDEN, "another site may not ask this server")
-        if self.headers.get("Sec-Fetch-Site", "none") not in ("same-origin", "none") and self.command == "POST":
+        is_page = self.command != "POST" and self.path != "/start"
+        if self.headers.get("Sec-Fetch-Site", "none") not in ("same-origin", "none") and not is_page:
             raise _Refused(HTTPStatus.FORBIDDEN, "another site may not ask this server")
 
     def _got(self, path: str) -> tuple[str, bytes]:
         if path == "/start":
-            return _json({**self.server.start(), "languages": languages()})
+            return _json(self.server.begin())
         if path not in _FILES:
             raise _Refused(HTTPStatus.NOT_FOUND, "there is no such page")
         name, kind = _FILES[path]
@@ -125,20 +140,57 @@ class _Handler(BaseHTTPRequestHandler):
         if self.headers.get_content_type() != "application/json":
             raise _Refused(HTTPStatus.UNSUPPORTED_MEDIA_TYPE, "a request is JSON")
         given = self._given()
-        with self.server.lock:
-            if path == "/look":
-                arguments = given.get("arguments")
-                named = arguments.items() if isinstance(arguments, dict) else ()
-                texts = {_clean(name): _clean(value) for name, value in named}
-                found = looked_at(_text(given, "source"), _text(given, "reference"), _text(given, "locale"), texts)
-            elif path == "/tidy":
-                found = tidied(_text(given, "source"))
-            else:
-                raise _Refused(HTTPStatus.NOT_FOUND, "there is no such request")
+        if path == "/look":
+            found = looked_at(self._asked(given))
+        elif path == "/tidy":
+            found = tidied(_text(given, "source"))
+        elif path == "/save":
+            found = self._saved(_text(given, "name"), _text(given, "source"))
+        else:
+            raise _Refused(HTTPStatus.NOT_FOUND, "there is no such request")
         return _json(found)
 
+    def _asked(self, given: dict[str, Any]) -> Asked:
+        """What a page asks about: its file among those of the project, with the texts that the page has of others."""
+        name, place = _text(given, "name"), given.get("at", 0)
+        project = self.server.project
+        is_one = name in project.files
+        return Asked(
+            source=_text(given, "source"),
+            reference=_text(given, "reference"),
+            locale=_text(given, "locale"),
+            arguments=_texts(given, "arguments"),
+            name=name or "source.ftl",
+            others={**project.files, **_texts(given, "others")} if is_one else {},
+            references=project.references if is_one else {},
+            at=place if isinstance(place, int) and not isinstance(place, bool) else 0,
+        )
+
+    def _saved(self, name: str, source: str) -> dict[str, Any]:
+        if not self.server.writes:
+            raise _Refused(HTTPStatus.FORBIDDEN, "this server writes no files: start it with --write")
+        try:
+            self.server.project.save(name, source)
+        except KeyError:
+            raise _Refused(HTTPStatus.NOT_FOUND, "there is no such file") from None
+        except (OSError, ValueError) as error:
+            return {"problem": f"{error}."}
+        return {"saved": name}
+
+    def send_error(self, code: int, message: str | None = None, explain: str | None = None) -> None:
+        """Answers what the class refuses by itself, with the headers of all answers."""
+        body = f"{message or code}\n".encode(errors="replace")
+        self.send_response(code, message)
+        for name, value in {**_HEADERS, "Content-Type": "text/plain; charset=utf-8"}.items():
+            self.send_header(name, value)
+        self.send_header("Content-Length", str(len(body)))
+        self.send_header("Connection", "close")
+        self.end_headers()
+        self.wfile.write(body)
+
     def _given(self) -> dict[str, Any]:
-        length = self.headers.get("Content-Length", "")
+        lengths = self.headers.get_all("Content-Length", [""])
+        length = lengths[0] if len(lengths) == 1 else ""
         if not (length.isascii() and length.isdigit()):
             raise _Refused(HTTPStatus.LENGTH_REQUIRED, "the length of a request is a number")
         if len(length) > 9 or int(length) > _LONGEST:
@@ -157,6 +209,12 @@ def _text(given: dict[str, Any], name: str) -> str:
     if not isinstance(value, str):
         raise _Refused(HTTPStatus.BAD_REQUEST, f"{name} is a text")
     return _clean(value)
+
+
+def _texts(given: dict[str, Any], name: str) -> dict[str, str]:
+    """The texts by their names in a member, if it is an object."""
+    value = given.get(name)
+    return {_clean(key): _clean(text) for key, text in value.items()} if isinstance(value, dict) else {}
 
 
 def _clean(value: object) -> str:

@@ -5,12 +5,14 @@
 const SLOW = 90; // Milliseconds without a key, before the server is asked.
 const LONG = 1000000; // A longer source isn't coloured.
 const LONGEST_LINK = 2000000; // Characters of the state of a link.
+const MANY = 400; // Of more lines, only those that are seen are laid out, and long ones aren't wrapped.
+const SPARE = 12; // Lines above and below those that are seen.
 const RIGHT_TO_LEFT = /^(ar|arc|ckb|dv|fa|he|iw|ji|ks|nqo|prs|ps|sd|syr|ug|ur|yi)\b/;
 const ISOLATES = { "\u2066": "LRI", "\u2067": "RLI", "\u2068": "FSI", "\u2069": "PDI" };
 
 const $ = (id) => document.getElementById(id);
 const before = { source: "", reference: "" };
-const state = { arguments: {}, findings: [], seen: null, asked: 0, shown: 0 };
+const state = { arguments: {}, findings: [], seen: null, asked: 0, shown: 0, name: "", files: {}, references: {}, others: {}, link: "", problem: "" };
 
 function element(name, properties = {}, ...children) {
   const made = document.createElement(name);
@@ -78,19 +80,71 @@ function byLine(lines, findings) {
   return found;
 }
 
-/** Shows the text of a field below it, in colours, with its findings underlined. Lines that stay as they are aren't touched. */
-function paint(field, findings) {
-  const pre = field.closest(".editor").querySelector("pre");
-  const lines = field.value.split("\n");
-  const marks = byLine(lines, findings);
-  const isColoured = field.value.length <= LONG;
-  const wanted = [];
-  let depth = 0;
-  for (const [number, line] of lines.entries()) {
-    const own = marks.get(number) ?? [];
-    wanted.push({ line, depth, own, key: `${depth} ${JSON.stringify(own)} ${line}` });
-    if (isColoured) depth = openAfter(line, depth);
+/** How many braces are open before each line. What is known of lines that stay as they are is taken over. */
+function depthsOf(lines, old) {
+  const depths = new Array(lines.length).fill(0);
+  const least = Math.min(lines.length, old?.lines.length ?? 0);
+  let [first, last] = [0, 0];
+  while (first < least && lines[first] === old.lines[first]) first += 1;
+  while (last < least - first && lines[lines.length - 1 - last] === old.lines[old.lines.length - 1 - last]) last += 1;
+  for (let number = 0; number < first; number += 1) depths[number] = old.depths[number];
+  let depth = first ? openAfter(lines[first - 1], depths[first - 1]) : 0;
+  const shift = (old?.lines.length ?? 0) - lines.length;
+  for (let number = first; number < lines.length; number += 1) {
+    if (number >= lines.length - last && old.depths[number + shift] === depth) {
+      for (let rest = number; rest < lines.length; rest += 1) depths[rest] = old.depths[rest + shift];
+      break;
+    }
+    depths[number] = depth;
+    depth = openAfter(lines[number], depth);
   }
+  return depths;
+}
+
+/** Shows the text of a field below it, in colours, with its findings underlined. */
+function paint(field, findings) {
+  const editor = field.closest(".editor");
+  const text = field.value;
+  const lines = text.split("\n");
+  const isColoured = text.length <= LONG;
+  const old = (paint.models ??= new Map()).get(editor);
+  const depths = isColoured ? depthsOf(lines, old?.isColoured ? old : null) : new Array(lines.length).fill(0);
+  paint.models.set(editor, { lines, depths, isColoured, marks: byLine(lines, findings) });
+  const isLong = lines.length > MANY;
+  if (editor.classList.contains("long") !== isLong) {
+    editor.classList.toggle("long", isLong);
+    field.wrap = isLong ? "off" : "soft";
+  }
+  draw(editor);
+}
+
+const heightOfLine = (field) => parseFloat(getComputedStyle(field).lineHeight);
+
+/** Lays out the lines of an editor: all of them, or if there are many, those that are seen. */
+function draw(editor) {
+  const { lines, depths, isColoured, marks } = paint.models.get(editor);
+  const [pre, field] = [editor.querySelector("pre"), editor.querySelector("textarea")];
+  let [from, to] = [0, lines.length];
+  pre.style.transform = pre.style.counterReset = "";
+  if (editor.classList.contains("long")) {
+    const height = heightOfLine(field);
+    from = Math.max(0, Math.floor(field.scrollTop / height) - SPARE);
+    to = Math.min(lines.length, Math.ceil((field.scrollTop + field.clientHeight) / height) + SPARE);
+    pre.style.transform = `translate(${-field.scrollLeft}px, ${from * height - field.scrollTop}px)`;
+    pre.style.counterReset = `line ${from}`;
+    pre.style.setProperty("--x", `${field.scrollLeft}px`);
+  }
+  const wanted = [];
+  for (let number = from; number < to; number += 1) {
+    const own = marks.get(number) ?? [];
+    const [line, depth] = [lines[number], depths[number]];
+    wanted.push({ line, depth, own, key: `${depth} ${own.length ? JSON.stringify(own) : ""} ${line}` });
+  }
+  fill(pre, wanted, isColoured);
+}
+
+/** Puts lines into a box. Those that stay as they are aren't touched. */
+function fill(pre, wanted, isColoured) {
   const before = (paint.keys ??= new Map()).get(pre) ?? [];
   let [first, last] = [0, 0];
   const least = Math.min(before.length, wanted.length);
@@ -131,8 +185,11 @@ const worst = (findings) => ["error", "warning", "note"].find((name) => findings
 
 /** The findings of a text that has become another, until the server has looked at it. */
 function moved(findings, before, after) {
+  if (!findings.length) return findings;
+  const [least, step] = [Math.min(before.length, after.length), 4096];
   let start = 0;
-  while (start < Math.min(before.length, after.length) && before[start] === after[start]) start += 1;
+  while (start + step <= least && before.slice(start, start + step) === after.slice(start, start + step)) start += step;
+  while (start < least && before[start] === after[start]) start += 1;
   const shift = after.length - before.length;
   return findings
     .filter((each) => each.end <= start || each.start >= start)
@@ -154,16 +211,21 @@ async function ask(path, given) {
   return answer.json();
 }
 
+/** Says what is wrong now. That a link is damaged is said until another text is there. */
 function say(words) {
-  $("problem").textContent = words ?? "";
-  $("problem").hidden = !words;
+  state.problem = words ?? "";
+  const told = [state.link, state.problem].filter(Boolean).join(" ");
+  $("problem").textContent = told;
+  $("problem").hidden = !told;
 }
 
 async function look() {
   const asked = (state.asked += 1);
   const sent = { source: $("source").value, reference: $("reference").value };
   try {
-    const found = await ask("look", { ...sent, locale: $("locale").value, arguments: state.arguments });
+    const place = $("source").selectionStart;
+    const asks = { ...sent, locale: $("locale").value, arguments: state.arguments, name: state.name, others: state.others, at: place };
+    const found = await ask("look", asks);
     if (asked < state.shown) return;
     state.shown = asked;
     say(found.problem);
@@ -200,18 +262,48 @@ function show(found, sent) {
   );
   const focus = document.activeElement?.dataset?.keep;
   const place = document.activeElement?.selectionStart;
-  const cards = found.messages.map((message) => card(message, found.locale));
+  $("keys").hidden = !found.findings.length;
+  count(found.counts);
+  for (const name of ["source", "reference"]) $(name).lang = name === "source" ? found.locale : "";
+  const cards = found.messages.map((message) => known(message, found.locale));
+  state.cards = new Map(cards.map((each) => [each.dataset.id, each]));
   if (!cards.length) {
-    cards.push(element("p", { class: "nothing" }, "There is no message yet. Type ", element("code", {}, "hello = Hello, { $name }!"), " on the other side."));
+    cards.push(element("p", { class: "nothing" }, "There is no message yet. Type ", element("code", {}, "hello = Hello, { $name }!"), " into the source."));
   }
-  if (found.more) cards.push(element("p", { class: "nothing" }, `${found.more} more messages aren't shown.`));
-  $("messages").replaceChildren(...cards);
+  if (found.more) cards.push(element("p", { class: "nothing" }, `${found.more} more messages aren't shown. Those near the caret are.`));
+  arrange($("messages"), cards);
   if (focus) {
     const again = [...document.querySelectorAll("[data-keep]")].find((each) => each.dataset.keep === focus);
     again?.focus();
     if (again?.setSelectionRange && place !== undefined && place !== null) again.setSelectionRange(place, place);
   }
   point();
+}
+
+/** The card of a message: the one that is there, if it shows the same. */
+function known(message, locale) {
+  const { start, end, line, ...rest } = message;
+  const why = message.read ? "" : state.seen.findings.find((each) => each.code === "syntax" && each.entry === message.id)?.text;
+  const key = JSON.stringify([rest, locale, $("marks").checked, why]);
+  const before = state.cards?.get(message.id);
+  const made = before?.dataset.key === key ? before : card(message, locale);
+  Object.assign(made.dataset, { id: message.id, key, start, end });
+  made.querySelector(".name").title = `Line ${line}`;
+  return made;
+}
+
+/** Puts nodes into a box in this order. Those that are in their place aren't touched. */
+function arrange(box, nodes) {
+  let at = box.firstChild;
+  for (const node of nodes) {
+    if (node === at) at = at.nextSibling;
+    else box.insertBefore(node, at);
+  }
+  while (at) {
+    const next = at.nextSibling;
+    at.remove();
+    at = next;
+  }
 }
 
 /** The words of a finding, with the code that is in them. */
@@ -253,7 +345,14 @@ function select(field, start, end) {
   field.focus();
   field.setSelectionRange(start, Math.max(start, end));
   const number = field.value.slice(0, start).split("\n").length - 1;
-  field.closest(".editor").querySelector("pre").children[number]?.scrollIntoView({ block: "nearest" });
+  const editor = field.closest(".editor");
+  if (editor.classList.contains("long")) {
+    const [top, height] = [number * heightOfLine(field), field.clientHeight];
+    if (top < field.scrollTop || top > field.scrollTop + height - 60) field.scrollTop = Math.max(0, top - height / 3);
+    draw(editor);
+  } else {
+    editor.querySelector("pre").children[number]?.scrollIntoView({ block: "nearest" });
+  }
   point();
 }
 
@@ -292,7 +391,10 @@ function marked(text) {
 function card(message, locale) {
   const name = element("button", { type: "button", class: "name", title: `Line ${message.line}` }, message.id);
   name.dataset.keep = `name ${message.id}`;
-  name.addEventListener("click", () => select($("source"), message.start, message.start + message.id.length));
+  name.addEventListener("click", () => {
+    const start = Number(made.dataset.start);
+    select($("source"), start, start + message.id.length);
+  });
   const made = element("article", { class: "message", "aria-label": message.id }, element("div", { class: "head" }, element("h3", {}, name)));
   made.dataset.start = message.start;
   made.dataset.end = message.end;
@@ -303,7 +405,7 @@ function card(message, locale) {
     const words = why ? ["This message can't be read: ", ...worded(why.text)] : ["This message can't be read."];
     made.append(element("ul", { class: "errors" }, element("li", {}, ...words)));
   } else if (!message.parts.some((part) => part.attribute === null)) {
-    made.append(element("p", { class: "text empty" }, "It has attributes alone."));
+    made.append(element("p", { class: "text empty" }, "Only attributes."));
   }
   for (const part of message.parts) made.append(shown(message, part, locale));
   return made;
@@ -328,7 +430,7 @@ function shown(message, part, locale) {
 }
 
 function field(message, part, variable) {
-  const input = element("input", { type: "text", value: variable.value, class: `is-${variable.kind}`, autocomplete: "off", spellcheck: false });
+  const input = element("input", { type: "text", value: variable.value, class: `is-${variable.kind}`, dir: "auto", autocomplete: "off", spellcheck: false, "aria-label": `$${variable.name}, in ${message.id}` });
   if (variable.kind === "number") input.inputMode = "decimal";
   if (variable.kind === "choice") input.title = `One of ${variable.keys.join(", ")}`;
   input.dataset.keep = `${message.id} ${part.attribute ?? ""} ${variable.name}`;
@@ -361,6 +463,12 @@ function point() {
     const isCurrent = Number(each.dataset.start) <= at && at <= Number(each.dataset.end);
     each.classList.toggle("current", isCurrent);
     if (isCurrent) current = each;
+  }
+  const shown = state.seen?.messages ?? [];
+  const isOutside = shown.length && (at < shown[0].start || at > shown[shown.length - 1].end);
+  if (at >= 0 && state.seen?.more && isOutside && state.outside !== at) {
+    state.outside = at;
+    later();
   }
   const name = current?.getAttribute("aria-label") ?? null;
   if (current && name !== state.pointed) reveal($("results"), current);
@@ -400,10 +508,16 @@ async function unpacked(fragment) {
 }
 
 let kept = "";
-async function keep() {
+async function linked() {
   const marks = $("marks").checked;
-  const now = JSON.stringify({ source: $("source").value, reference: $("reference").value, locale: $("locale").value, arguments: state.arguments, marks });
-  kept = `#${await packed(now)}`;
+  const now = JSON.stringify({ source: $("source").value, reference: $("reference").value, locale: $("locale").value, arguments: state.arguments, marks, name: state.name });
+  return `#${await packed(now)}`;
+}
+
+/** Keeps the state in the address, unless the page shows files: these are read again when it is loaded. */
+async function keep() {
+  if (state.name || state.link) return;
+  kept = await linked();
   history.replaceState(null, "", kept);
 }
 
@@ -415,10 +529,60 @@ async function restored() {
     const text = (value) => (typeof value === "string" ? value : "");
     const given = found.arguments && typeof found.arguments === "object" ? found.arguments : {};
     const names = Object.entries(given).filter(([, value]) => typeof value === "string");
-    return { source: text(found.source), reference: text(found.reference), locale: text(found.locale), arguments: Object.fromEntries(names), marks: found.marks === true };
+    state.link = "";
+    return { name: text(found.name), source: text(found.source), reference: text(found.reference), locale: text(found.locale), arguments: Object.fromEntries(names), marks: found.marks === true };
   } catch {
-    say("The link is damaged, so the page begins anew.");
+    state.link = "The link is damaged, so the page begins anew.";
+    say(state.problem);
     return null;
+  }
+}
+
+// The files of a project.
+
+/** Lists the files, with how many errors and warnings each has. */
+function count(counts) {
+  for (const option of $("file").options) {
+    const own = counts[option.value] ?? {};
+    const found = ["error", "warning"].filter((name) => own[name]).map((name) => `${own[name]} ${name}${own[name] > 1 ? "s" : ""}`);
+    option.textContent = found.length ? `${option.value} (${found.join(", ")})` : option.value;
+  }
+  $("save").disabled = $("source").value === state.files[state.name];
+}
+
+/** Keeps the text of the file that is shown, if it isn't the one that was read. */
+function note() {
+  if (!state.name) return;
+  if ($("source").value === state.files[state.name]) delete state.others[state.name];
+  else state.others[state.name] = $("source").value;
+}
+
+function turn(name) {
+  note();
+  state.name = name;
+  const texts = { source: state.others[name] ?? state.files[name] ?? "", reference: state.references[name] ?? "" };
+  for (const field of ["source", "reference"]) {
+    state[field] = [];
+    before[field] = $(field).value = texts[field];
+    paint($(field), []);
+  }
+  $("source").setSelectionRange(0, 0);
+  return look();
+}
+
+async function save() {
+  try {
+    const name = state.name;
+    const source = $("source").value;
+    const found = await ask("save", { name, source });
+    if (found.problem) return say(found.problem);
+    state.files[name] = source;
+    delete state.others[name];
+    $("save").textContent = "Saved";
+    setTimeout(() => ($("save").textContent = "Save"), 2000);
+    return look();
+  } catch (error) {
+    return say(`The server doesn't answer: ${error.message}`);
   }
 }
 
@@ -431,6 +595,12 @@ function begin(start, languages) {
   $("source").value = start.source;
   $("reference").value = start.reference;
   $("marks").checked = start.marks === true;
+  state.name = start.name in state.files ? start.name : "";
+  const names = Object.keys(state.files);
+  $("file").replaceChildren(...names.map((name) => element("option", { value: name }, name)));
+  $("file").value = state.name;
+  $("files").hidden = names.length < 2 || !state.name;
+  $("save").hidden = !(state.writes && state.name);
   $("compare").open = Boolean(start.reference);
   state.arguments = { ...start.arguments };
   for (const name of ["source", "reference"]) {
@@ -439,6 +609,7 @@ function begin(start, languages) {
   }
   paint($("source"), []);
   paint($("reference"), []);
+  $("source").setSelectionRange(0, 0);
   return look();
 }
 
@@ -448,8 +619,20 @@ function typed(field) {
   const name = field.id;
   state[name] = moved(state[name] ?? [], before[name], field.value);
   before[name] = field.value;
+  state.link = "";
+  note();
   paint(field, state[name]);
   later();
+}
+
+/** A line that is begun in a select is as far from the edge as the one before it, or farther after `->`. */
+function indented(event, field) {
+  if (event.key !== "Enter" || event.shiftKey || event.ctrlKey || event.altKey || event.metaKey || event.isComposing) return;
+  const line = field.value.slice(field.value.lastIndexOf("\n", field.selectionStart - 1) + 1, field.selectionStart);
+  const indent = /^ */.exec(line)[0] + (/->\s*$/.test(line) ? "    " : "");
+  if (!indent) return;
+  event.preventDefault();
+  document.execCommand("insertText", false, `\n${indent}`);
 }
 
 function next(field, back) {
@@ -486,11 +669,13 @@ function remembered() {
 }
 
 async function share() {
-  await keep();
+  const fragment = await linked();
   try {
-    await navigator.clipboard.writeText(location.href);
+    await navigator.clipboard.writeText(`${location.origin}${location.pathname}${fragment}`);
     $("share").textContent = "Copied";
   } catch {
+    kept = fragment;
+    history.replaceState(null, "", fragment);
     $("share").textContent = "The link is the address";
   }
   setTimeout(() => ($("share").textContent = "Copy link"), 2000);
@@ -516,8 +701,29 @@ function listen() {
         event.preventDefault();
         next(field, event.shiftKey);
       }
+      if (event.key.toLowerCase() === "s" && (event.ctrlKey || event.metaKey) && !$("save").hidden) {
+        event.preventDefault();
+        save();
+      }
+      indented(event, field);
     });
+    const editor = field.closest(".editor");
+    let isDrawn = true;
+    field.addEventListener("scroll", () => {
+      if (!isDrawn || !editor.classList.contains("long")) return;
+      isDrawn = false;
+      requestAnimationFrame(() => {
+        isDrawn = true;
+        draw(editor);
+      });
+    });
+    new ResizeObserver(() => editor.classList.contains("long") && draw(editor)).observe(field);
   }
+  $("file").addEventListener("change", () => turn($("file").value));
+  $("save").addEventListener("click", save);
+  addEventListener("beforeunload", (event) => {
+    if (Object.keys(state.others).length) event.preventDefault();
+  });
   document.addEventListener("selectionchange", point);
   $("locale").addEventListener("change", look);
   $("marks").addEventListener("change", look);
@@ -541,7 +747,7 @@ async function main() {
   listen();
   try {
     const start = await (await fetch("start")).json();
-    state.languages = start.languages;
+    Object.assign(state, { languages: start.languages, files: start.files, references: start.references, writes: start.writes });
     await begin((await restored()) ?? start, start.languages);
   } catch (error) {
     say(`The server doesn't answer: ${error.message}`);

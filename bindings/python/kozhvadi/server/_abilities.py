@@ -56,8 +56,8 @@ class Abilities:
     pulls: bool = False
 
     @staticmethod
-    def of(params: Params) -> Abilities:
-        """Those that the parameters of `initialize` have."""
+    def of(params: Params, counts_bytes: bool) -> Abilities:
+        """Those that the parameters of `initialize` have. With `counts_bytes` the client counts bytes without saying so."""
         can = params["capabilities"]
         document, workspace = can.get("textDocument"), can.get("workspace")
         formats = document.at("hover", "contentFormat")
@@ -65,7 +65,7 @@ class Abilities:
         known = operations if isinstance(operations, list) else []
         encodings = can.at("general", "positionEncodings")
         return Abilities(
-            counts_bytes=isinstance(encodings, list) and encodings[:1] == ["utf-8"],
+            counts_bytes=counts_bytes or (isinstance(encodings, list) and encodings[:1] == ["utf-8"]),
             nested_symbols=document.at("documentSymbol", "hierarchicalDocumentSymbolSupport") is True,
             snippets=document.at("completion", "completionItem", "snippetSupport") is True,
             markdown=not isinstance(formats, list) or "markdown" in formats,

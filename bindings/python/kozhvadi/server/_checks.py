@@ -101,6 +101,8 @@ class Checks:
     def __init__(self, workspace: Workspace) -> None:
         self._workspace = workspace
         self.has_related = self.has_links = False
+        # What couldn't be read at the last check, in sentences.
+        self.unread: list[str] = []
         self._kept: dict[str, _Kept] = {}
         self._found: dict[str, list[Finding]] = {}
         self._missing: dict[str, list[str]] = {}
@@ -193,7 +195,7 @@ class Checks:
     def _unread(self, catalog: Loaded, reference: Loaded) -> list[str]:
         """What can't be read, in sentences."""
         unread = [*catalog.unread, *reference.unread]
-        told = [f"{self._workspace.shown(path)} {why}, so its entries are unknown" for path, why in unread[:_NAMED]]
+        self.unread = told = [f"{self._workspace.shown(path)} {why}, so its entries are unknown" for path, why in unread[:_NAMED]]
         if len(unread) > _NAMED:
             told.append(f"{len(unread) - _NAMED} more files can't be read, so their entries are unknown")
         return told

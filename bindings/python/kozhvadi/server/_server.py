@@ -37,16 +37,18 @@ _MOST_SHOWN = 1000
 
 
 class Server:
-    """A language server that sends its messages by a function."""
+    """A language server that sends its messages by a function. With `counts_bytes` positions do so, whatever the client
+    says."""
 
-    def __init__(self, send: Callable[[object], None]) -> None:
-        self._send = send
+    def __init__(self, send: Callable[[object], None], counts_bytes: bool = False) -> None:
+        self._send, self._counts_bytes = send, counts_bytes
         self.workspace = Workspace()
         self._checks = Checks(self.workspace)
         self._actions = Actions(self.workspace, self._checks)
         self._naming, self._hovering = Naming(self.workspace), Hovering(self.workspace)
         self._completion, self._moving = Completion(self.workspace), Moving(self.workspace)
-        structure, hints, highlighting = Structure(self.workspace), Hints(self.workspace), Highlighting(self.workspace)
+        self._structure, self._hints = Structure(self.workspace), Hints(self.workspace)
+        self._highlighting = Highlighting(self.workspace)
         self._unchecked: dict[str, None] = {}
         self._shown: set[str] = set()
         self._initial: dict[str, Any] = {}
@@ -54,7 +56,11 @@ class Server:
         self.ended: Callable[[], None] = lambda: None
         self._can = Abilities()
         self._asked = 0
-        answers: dict[str, Callable[[Params], object]] = {
+        self.session = Session(send, _with_params(self._answers()), _with_params(self._notices()))
+
+    def _answers(self) -> dict[str, Callable[[Params], object]]:
+        """What answers each request."""
+        return {
             "initialize": self._initialize,
             "shutdown": lambda _: None,
             "textDocument/definition": self._naming.definition,
@@ -69,17 +75,20 @@ class Server:
             "textDocument/codeAction": self._checks_asked(self._actions.actions),
             "workspace/executeCommand": self._checks_asked(self._execute),
             "textDocument/formatting": self._format,
-            "textDocument/foldingRange": structure.folds,
-            "textDocument/selectionRange": structure.selections,
-            "textDocument/inlayHint": hints.hints,
-            "textDocument/codeLens": hints.lenses,
-            "textDocument/semanticTokens/full": highlighting.full,
-            "textDocument/semanticTokens/range": highlighting.of_range,
+            "textDocument/foldingRange": self._structure.folds,
+            "textDocument/selectionRange": self._structure.selections,
+            "textDocument/inlayHint": self._hints.hints,
+            "textDocument/codeLens": self._hints.lenses,
+            "textDocument/semanticTokens/full": self._highlighting.full,
+            "textDocument/semanticTokens/range": self._highlighting.of_range,
             "textDocument/diagnostic": self._checks.pulled,
             "workspace/diagnostic": self._checks.pulled_of_workspace,
             "workspace/willRenameFiles": self._moving.moves,
         }
-        notices: dict[str, Callable[[Params], object]] = {
+
+    def _notices(self) -> dict[str, Callable[[Params], object]]:
+        """What takes each notification."""
+        return {
             "initialized": self._watch,
             "textDocument/didOpen": self._open,
             "textDocument/didChange": self._change,
@@ -89,7 +98,6 @@ class Server:
             "workspace/didChangeWatchedFiles": lambda _: self._check_all(),
             "workspace/didChangeWorkspaceFolders": self._change_folders,
         }
-        self.session = Session(send, _with_params(answers), _with_params(notices))
 
     def check(self) -> None:
         """Checks what has changed, and sends what is found."""
@@ -98,8 +106,8 @@ class Server:
             document = self.workspace.open.get(uri)
             published = self._checks.check(document) if document else []
             absent = self.workspace.missing_reference(document) if document else None
-            if absent:
-                self._show(absent)
+            for words in [*([absent] if absent else []), *(self._checks.unread if document else [])]:
+                self._show(words)
             self._unchecked.pop(uri, None)
             for each in published:
                 self._unchecked.pop(each["uri"], None)
@@ -139,7 +147,7 @@ class Server:
         return answered
 
     def _initialize(self, params: Params) -> Json:
-        self._can = can = Abilities.of(params)
+        self._can = can = Abilities.of(params, self._counts_bytes)
         self._naming.has_nested_symbols, self._naming.has_versions = can.nested_symbols, can.versions
         self._completion.has_snippets, self._hovering.has_markdown = can.snippets, can.markdown
         self._checks.has_related, self._checks.has_links = can.related, can.links
@@ -273,9 +281,9 @@ def _with_params(handlers: dict[str, Callable[[Params], object]]) -> dict[str, C
     return {name: answering(handler) for name, handler in handlers.items()}
 
 
-def serve(given: Input, output: Output) -> int:
+def serve(given: Input, output: Output, counts_bytes: bool = False) -> int:
     """Answers the messages of a stream until `exit`, or its end. Returns 0 if it was shut down before that."""
-    server, inbox = Server(writer(output)), Inbox(given)
+    server, inbox = Server(writer(output), counts_bytes), Inbox(given)
     server.ended = inbox.end
     stop_if(lambda: inbox.is_stopped)
     since = time.monotonic()
