@@ -192,7 +192,7 @@ static void try_depth(void) {
 int main(void) {
     struct FluentBundle bundle = {0};
     struct FluentCounts counts = {0};
-    check("a locale", fluent_bundle_of(SOURCE, "plx", false, &bundle) == FLUENT_UNKNOWN_LOCALE && !bundle.held);
+    check("a locale", fluent_bundle_of(SOURCE, "x", false, &bundle) == FLUENT_UNKNOWN_LOCALE && !bundle.held);
     for (const char *const *locale = POSIX; *locale; locale++)
         check(*locale, fluent_bundle_of(SOURCE, *locale, false, &bundle) == FLUENT_READ
             && shows(&bundle, fluent_integer_argument("n", 1), "1 other"));
