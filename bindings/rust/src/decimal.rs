@@ -50,6 +50,20 @@ impl Decimal {
         (self.fraction == 0).then(|| self.truncated())
     }
 
+    /// The nearest float.
+    pub(crate) fn nearest(self) -> f64 {
+        let value = match self.fraction {
+            0 => self.whole as f64,
+            // Each decimal is the text of a float.
+            _ => return self.text(None).parse().unwrap_or(f64::NAN),
+        };
+        if self.is_negative {
+            -value
+        } else {
+            value
+        }
+    }
+
     /// The integer toward zero.
     pub(crate) fn truncated(self) -> i128 {
         let whole = i128::from(self.whole);
