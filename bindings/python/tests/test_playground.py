@@ -270,7 +270,7 @@ class LookedAtTest(unittest.TestCase):
                 ([made + "/none.ftl"], "No such file"),
                 ([str(bad)], "isn't UTF-8"),
                 (["--port", "99999"], "port"),
-                (["--locale", "xx"], "no plural rules"),
+                (["--locale", "x"], "no language tag"),
             ]:
                 ran = subprocess.run(
                     [sys.executable, "-m", "kozhvadi.playground", *words],

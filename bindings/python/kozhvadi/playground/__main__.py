@@ -8,7 +8,7 @@ import webbrowser
 from pathlib import Path
 from typing import Any
 
-from .._samples import has_rules
+from .._samples import is_tag
 from . import __doc__ as about
 from ._pages import Playground
 
@@ -40,8 +40,8 @@ def _words() -> argparse.Namespace:
     parser.add_argument("--port", type=int, default=_PORT, help=f"{_PORT} without it; 0 is any that is free")
     parser.add_argument("--open", action="store_true", help="open the page in a browser")
     words = parser.parse_args()
-    if not has_rules(words.locale):
-        parser.error(f"the locale {words.locale!r} has no plural rules")
+    if not is_tag(words.locale):
+        parser.error(f"the locale {words.locale!r} is no language tag")
     return words
 
 
