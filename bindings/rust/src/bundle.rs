@@ -459,8 +459,12 @@ impl<R: Borrow<FluentResource>, M> FluentBundle<R, M> {
         let answer = |call: &str| Some(answering.borrow_mut().answer(call));
         let answered = kept.format(pattern, &given, answer, |text, lines| {
             let mut answering = answering.borrow_mut();
-            errors.extend(answering.errors.drain(..).map(FluentError::from));
-            errors.extend(lines.split_terminator('\n').map(|line| ResolverError::of_line(line).into()));
+            if !answering.errors.is_empty() {
+                errors.extend(answering.errors.drain(..).map(FluentError::from));
+            }
+            if !lines.is_empty() {
+                errors.extend(lines.split_terminator('\n').map(|line| ResolverError::of_line(line).into()));
+            }
             match answering.customs.shown(text.as_str()) {
                 Some(text) => Formatted::Shown(text),
                 None => Formatted::Taken(took(text)),

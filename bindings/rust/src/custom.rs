@@ -37,8 +37,17 @@ impl Customs {
     }
 
     /// A text in which values are shown, or `None` if it has none.
+    #[inline]
     pub(crate) fn shown(&self, text: &str) -> Option<String> {
-        if self.0.is_empty() || !text.contains(MARK) {
+        if self.0.is_empty() {
+            return None;
+        }
+        self.shown_in(text)
+    }
+
+    #[inline(never)]
+    fn shown_in(&self, text: &str) -> Option<String> {
+        if !text.contains(MARK) {
             return None;
         }
         let mut made = String::with_capacity(text.len());

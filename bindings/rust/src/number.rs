@@ -89,6 +89,7 @@ impl FluentNumber {
     }
 
     /// The decimal that the number was made of, as long as it is that number.
+    #[inline]
     fn written(&self) -> Option<Decimal> {
         self.options.written.0.filter(|decimal| decimal.nearest() == self.value)
     }
@@ -112,17 +113,27 @@ impl FluentNumber {
     }
 
     /// The number, as it is passed to the library.
+    #[inline]
     pub(crate) fn given(&self) -> Given {
+        let (written, least) = (self.written(), self.options.minimum_fraction_digits);
+        match written.and_then(Decimal::signed) {
+            Some(integer) if least.is_none() => Given::Signed(integer),
+            _ => self.given_as(written, least),
+        }
+    }
+
+    /// The same for a number that isn't the integer that it was made of.
+    #[inline(never)]
+    fn given_as(&self, written: Option<Decimal>, least: Option<usize>) -> Given {
         let decimal = match self.amount() {
             Amount::Float(value) => return Given::Text(value.to_string()),
             Amount::Decimal(decimal) => decimal,
         };
-        let least = self.options.minimum_fraction_digits;
         let integer = if least.is_none() { decimal.integer() } else { None };
         match integer.map(|integer| (i64::try_from(integer), u64::try_from(integer))) {
             Some((Ok(integer), _)) => Given::Signed(integer),
             Some((_, Ok(integer))) => Given::Unsigned(integer),
-            _ if least.is_none() && self.written().is_none() => Given::Float(decimal.text(None)),
+            _ if least.is_none() && written.is_none() => Given::Float(decimal.text(None)),
             _ => Given::Decimal(decimal.text(least)),
         }
     }

@@ -145,9 +145,16 @@ impl FluentNumberOptions {
     }
 
     /// Whether there is an option but for `minimum_fraction_digits`, which the digits of a number say.
+    #[inline]
     pub(crate) fn are_more(&self) -> bool {
-        let usual = FluentNumberOptions { minimum_fraction_digits: self.minimum_fraction_digits, ..Default::default() };
-        *self != usual
+        self.style != FluentNumberStyle::Decimal
+            || self.currency.is_some()
+            || self.currency_display != FluentNumberCurrencyDisplayStyle::Symbol
+            || !self.use_grouping
+            || self.minimum_integer_digits.is_some()
+            || self.maximum_fraction_digits.is_some()
+            || self.minimum_significant_digits.is_some()
+            || self.maximum_significant_digits.is_some()
     }
 
     /// The options as named arguments of the function `NUMBER`, each after a comma.
