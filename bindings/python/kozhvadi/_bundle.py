@@ -147,7 +147,7 @@ class Bundle:
             named = self._without_deep(named)
             made = self._new(named, tag)
         if made == c.UNKNOWN_LOCALE:
-            raise UnknownLocaleError(f"the locale {locale!r} is no language tag")
+            raise UnknownLocaleError(f"the locale {locale!r} is no tag of a language")
         if made != c.READ:
             raise MemoryError("memory ran out")
         # The sources; whether nobody asked for `errors` yet; and whether the next answer warns of them.

@@ -15,7 +15,7 @@ class FluentError(Exception):
 
 
 class UnknownLocaleError(FluentError, ValueError):
-    """The locale is no language tag."""
+    """The locale is no tag of a language."""
 
 
 class MissingMessageError(FluentError, KeyError):

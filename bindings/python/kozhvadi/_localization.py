@@ -36,7 +36,7 @@ class Localization:
 
     A bundle is made when it is first asked. In place of sources there may be a `Bundle`, which other objects may hold, too:
     it is used as it is. `numbers`, `isolating`, `overriding`, `formatter` and `functions` are those of `Bundle`. Raises
-    `UnknownLocaleError` for a locale that is no language tag.
+    `UnknownLocaleError` for a locale that is no tag of a language.
 
     >>> english = Bundle("hello = Hello\\n", locale="en")
     >>> texts = Localization({"fr": "bye = Au revoir\\n", "en": english})

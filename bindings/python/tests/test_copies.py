@@ -47,7 +47,7 @@ OBJECTS = [
     SourceError("en.ftl:2:4: expected `=`", "ExpectedToken", "en.ftl", 2, 4),
     Symbol("message", "a"),
     TidyError("a carriage return ends no line", 3, 4),
-    UnknownLocaleError("the locale 'x' is no language tag"),
+    UnknownLocaleError("the locale 'x' is no tag of a language"),
     runtime.FluentFormatError("No default"),
     runtime.FluentReferenceError("Unknown external: name"),
     runtime.FluentCyclicReferenceError("Cyclic reference"),

@@ -41,7 +41,7 @@ def _words() -> argparse.Namespace:
     parser.add_argument("--open", action="store_true", help="open the page in a browser")
     words = parser.parse_args()
     if not is_tag(words.locale):
-        parser.error(f"the locale {words.locale!r} is no language tag")
+        parser.error(f"the locale {words.locale!r} is no tag of a language")
     return words
 
 
