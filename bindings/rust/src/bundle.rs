@@ -2,7 +2,7 @@
 
 use crate::args::{FluentArgs, NONE};
 use crate::call::{Answering, Functions};
-use crate::custom::Customs;
+use crate::custom::{Customs, Transform};
 use crate::errors::{EntryKind, FluentError};
 use crate::ids::{ById, Name};
 use crate::kept::{Kept, Refusal, Settings};
@@ -42,6 +42,7 @@ pub struct FluentBundle<R = FluentResource, M = IntlLangMemoizer> {
     stack: usize,
     intls: M,
     formatter: Option<Formatter<M>>,
+    transform: Option<Transform>,
     resources: Vec<Added<R>>,
     /// The entry of each id that counts.
     entries: HashMap<Name, Held, ById>,
@@ -118,6 +119,7 @@ impl<R: Borrow<FluentResource>> FluentBundle<R, IntlLangMemoizer> {
             stack: 0,
             intls: *IntlLangMemoizer::marker(),
             formatter: None,
+            transform: None,
             resources: Vec::new(),
             entries: HashMap::from_iter([(Name::from("NUMBER"), Held::Builtin)]),
             ids: Vec::new(),
@@ -303,6 +305,26 @@ impl<R: Borrow<FluentResource>, M> FluentBundle<R, M> {
         self.formatter = formatter;
     }
 
+    /// Sets what changes the texts of messages, as a program does to try how it looks in other languages.
+    ///
+    /// It gets the texts of the sources line by line, without the values in them. A text in quotes, such as `{ "x" }`, is
+    /// changed as the text around it; what is shown for what isn't there is, too, unless it is a variable.
+    ///
+    /// ```
+    /// # use kozhvadi::{fluent_args, FluentBundle, FluentResource};
+    /// let mut bundle = FluentBundle::new(vec!["en"]);
+    /// bundle.add_resource(FluentResource::try_new("a = Hello, { $name }!".to_string()).unwrap()).unwrap();
+    /// # bundle.set_use_isolating(false);
+    /// bundle.set_transform(Some(|text| text.to_uppercase().into()));
+    /// let pattern = bundle.get_message("a").and_then(|message| message.value()).unwrap();
+    /// let text = bundle.format_pattern(pattern, Some(&fluent_args!["name" => "Jane"]), &mut vec![]);
+    /// assert_eq!(text, "HELLO, Jane!");
+    /// ```
+    pub fn set_transform(&mut self, transform: Option<fn(&str) -> Cow<'_, str>>) {
+        self.forget();
+        self.transform = transform;
+    }
+
     /// How many bytes of the machine's stack an answer may take, and a message or a term when it is read: at first 1.5 MB
     /// (1,572,864), which a thread with 2 MB has. A thread that asks needs 400 KB beside it.
     ///
@@ -435,9 +457,12 @@ impl<R: Borrow<FluentResource>, M> FluentBundle<R, M> {
     fn fixed_text<'p>(&'p self, pattern: &'p Pattern) -> Option<&'p str> {
         let own = self.own(pattern)?;
         own.fixed(|| {
-            let fixed = |text: &mut Text, errors: &str| errors.is_empty().then(|| text.as_str().into());
+            let shown = |text: &str| Customs::default().shown(text, self.transform).map(String::into_boxed_str);
+            let fixed = |text: &mut Text, errors: &str| {
+                errors.is_empty().then(|| shown(text.as_str()).unwrap_or_else(|| text.as_str().into()))
+            };
             // A text that calls a function isn't kept.
-            self.kept(self.formatter.is_some()).format(own, NONE, |_| None, fixed).ok()?
+            self.kept(self.shows(None)).format(own, NONE, |_| None, fixed).ok()?
         })
     }
 
@@ -455,7 +480,14 @@ impl<R: Borrow<FluentResource>, M> FluentBundle<R, M> {
         let show = |value: &FluentValue<'_>| self.shown(value);
         let functions = &self.functions;
         // A function may ask the bundle, but not for this answer.
-        let answering = RefCell::new(Answering { functions, args, show: &show, customs, errors: Vec::new() });
+        let answering = RefCell::new(Answering {
+            functions,
+            args,
+            show: &show,
+            is_marked: self.transform.is_some(),
+            customs,
+            errors: Vec::new(),
+        });
         let answer = |call: &str| Some(answering.borrow_mut().answer(call));
         let answered = kept.format(pattern, &given, answer, |text, lines| {
             let mut answering = answering.borrow_mut();
@@ -465,7 +497,7 @@ impl<R: Borrow<FluentResource>, M> FluentBundle<R, M> {
             if !lines.is_empty() {
                 errors.extend(lines.split_terminator('\n').map(|line| ResolverError::of_line(line).into()));
             }
-            match answering.customs.shown(text.as_str()) {
+            match answering.customs.shown(text.as_str(), self.transform) {
                 Some(text) => Formatted::Shown(text),
                 None => Formatted::Taken(took(text)),
             }
@@ -484,14 +516,17 @@ impl<R: Borrow<FluentResource>, M> FluentBundle<R, M> {
 
     /// Whether values are shown by calls: if the program shows them, or a number has options that its digits don't say.
     fn shows(&self, args: Option<&FluentArgs<'_>>) -> bool {
-        self.formatter.is_some() || args.is_some_and(FluentArgs::have_more_options)
+        let are_all = self.formatter.is_some() || self.transform.is_some();
+        are_all || args.is_some_and(FluentArgs::have_more_options)
     }
 
     /// How a value is shown, if that isn't how the library shows it.
     fn shown(&self, value: &FluentValue<'_>) -> Option<String> {
         let text = self.formatter.and_then(|formatter| formatter(value, &self.intls));
         text.or_else(|| match value {
-            FluentValue::Number(number) if number.has_more_options() => Some(self.number_shown(number)),
+            FluentValue::Number(number) if self.transform.is_some() || number.has_more_options() => {
+                Some(self.number_shown(number))
+            }
             FluentValue::Custom(value) => Some(value.as_string(IntlLangMemoizer::marker()).into_owned()),
             _ => None,
         })
@@ -499,6 +534,9 @@ impl<R: Borrow<FluentResource>, M> FluentBundle<R, M> {
 
     /// A number as the library's `NUMBER` shows it by all its options.
     fn number_shown(&self, number: &FluentNumber) -> String {
+        if number.is_text() {
+            return number.as_string().into_owned();
+        }
         let options = number.options.as_arguments();
         let mut numbers = self.numbers.lock().unwrap_or_else(PoisonError::into_inner);
         let kept = numbers.entry(options).or_insert_with_key(|options| {

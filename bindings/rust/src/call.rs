@@ -51,6 +51,8 @@ pub(crate) struct Answering<'b> {
     pub args: &'b FluentArgs<'b>,
     /// How a value is shown, if that isn't how the library shows it.
     pub show: &'b dyn Fn(&FluentValue<'_>) -> Option<String>,
+    /// Whether what is shown is told apart from the texts around it, which are changed.
+    pub is_marked: bool,
     pub customs: Customs,
     /// What functions reported.
     pub errors: Vec<ResolverError>,
@@ -68,16 +70,14 @@ impl Answering<'_> {
             None => (call.name.strip_suffix(IS_OWN).unwrap_or(&call.name), false),
         };
         match (self.value(name, &call), is_shown) {
-            (Ok(value), true) => match value {
-                FluentValue::Error => format!("{name}()").into(),
-                value => self.shown(value),
-            },
+            (Ok(FluentValue::Error), true) => self.marked(format!("{name}()")),
+            (Ok(value), true) => self.shown(value),
             (Ok(FluentValue::Custom(value)), false) => self.customs.token(&*value).into(),
             (Ok(value), false) => value,
             (Err(text), is_shown) => {
                 self.errors.push(ResolverError::Function { id: name.to_owned(), text });
                 if is_shown {
-                    format!("{{{name}()}}").into()
+                    self.marked(format!("{{{name}()}}"))
                 } else {
                     FluentValue::Error
                 }
@@ -94,16 +94,26 @@ impl Answering<'_> {
     }
 
     /// A value as the library shows it: a text, or a number that it writes.
-    fn shown(&self, value: FluentValue<'static>) -> FluentValue<'static> {
+    fn shown(&mut self, value: FluentValue<'static>) -> FluentValue<'static> {
         match ((self.show)(&value), value) {
-            (Some(text), _) => text.into(),
-            (None, value @ (FluentValue::String(_) | FluentValue::Number(_))) => value,
+            (Some(text), _) => self.marked(text),
+            (None, FluentValue::String(text)) => self.marked(text.into_owned()),
+            (None, number @ FluentValue::Number(_)) => number,
             (None, FluentValue::Custom(_) | FluentValue::None | FluentValue::Error) => "".into(),
         }
     }
 
+    /// How a value is shown, as a text that isn't changed.
+    fn marked(&mut self, shown: String) -> FluentValue<'static> {
+        if self.is_marked {
+            self.customs.token_of_text(shown).into()
+        } else {
+            shown.into()
+        }
+    }
+
     /// An argument of the message, or a number that is written in it.
-    fn shown_argument(&self, call: &Call) -> FluentValue<'static> {
+    fn shown_argument(&mut self, call: &Call) -> FluentValue<'static> {
         let name = match call.positional.get(1) {
             Some(FluentValue::String(name)) => name.as_ref(),
             _ => "",
@@ -115,7 +125,7 @@ impl Answering<'_> {
             {
                 self.shown(FluentValue::Number(given.clone()))
             }
-            (Some(FluentValue::Error) | None, None) => format!("{{${name}}}").into(),
+            (Some(FluentValue::Error) | None, None) => self.marked(format!("{{${name}}}")),
             (value, _) => self.shown(value.cloned().unwrap_or(FluentValue::Error)),
         }
     }

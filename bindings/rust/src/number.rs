@@ -146,6 +146,11 @@ impl FluentNumber {
         }
     }
 
+    /// Whether the number is a text for the library, since it is too large or none.
+    pub(crate) fn is_text(&self) -> bool {
+        matches!(self.amount(), Amount::Float(_))
+    }
+
     /// Whether there is an option but for the digits after the point.
     pub(crate) fn has_more_options(&self) -> bool {
         self.options.are_more()

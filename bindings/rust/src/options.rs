@@ -157,14 +157,18 @@ impl FluentNumberOptions {
             || self.maximum_significant_digits.is_some()
     }
 
-    /// The options as named arguments of the function `NUMBER`, each after a comma.
+    /// The options that aren't the usual ones, as named arguments of the function `NUMBER`, each after a comma.
     pub(crate) fn as_arguments(&self) -> String {
+        let usual = FluentNumberOptions::default();
         let texts = [
-            ("style", Some(self.style.name())),
+            ("style", Some(self.style.name()).filter(|_| self.style != usual.style)),
             // A text that would end the literal is no currency.
             ("currency", self.currency.as_deref().filter(|code| code.bytes().all(|byte| byte.is_ascii_alphanumeric()))),
-            ("currencyDisplay", Some(self.currency_display.name())),
-            ("useGrouping", Some(if self.use_grouping { "true" } else { "false" })),
+            (
+                "currencyDisplay",
+                Some(self.currency_display.name()).filter(|_| self.currency_display != usual.currency_display),
+            ),
+            ("useGrouping", Some("false").filter(|_| !self.use_grouping)),
         ];
         let counts = [
             ("minimumIntegerDigits", self.minimum_integer_digits),

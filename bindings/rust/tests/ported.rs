@@ -231,6 +231,36 @@ fn numbers_are_formatted_by_the_program() {
     assert_eq!(shown(&bundle, "implicit"), "Hello 5.000 World");
 }
 
+/// As in `i18n-embed`: texts that show which ones are translated.
+#[test]
+fn texts_are_transformed() {
+    fn transform(text: &str) -> Cow<'_, str> {
+        text.replace('e', "é").into()
+    }
+    let source = "\
+plain = Hello there
+    on two lines
+value = { $n ->
+    [one] see { $name } { SHOW($name) } { $n }
+   *[other] { plain } { -term } { NUMBER(2.50) } { $gone }
+}
+-term = the term
+";
+    let mut bundle = english(source);
+    bundle.add_function("SHOW", |given, _| given[0].clone()).unwrap();
+    bundle.set_transform(Some(transform));
+    let shown = |bundle: &FluentBundle<FluentResource>, n: i32| {
+        text(bundle, "value", Some(&fluent_args!["n" => n, "name" => "Jane"])).0
+    };
+    assert_eq!(text(&bundle, "plain", None).0, "Héllo théré\non two linés");
+    assert_eq!(shown(&bundle, 1), "séé Jane Jane 1");
+    assert_eq!(shown(&bundle, 1234), "Héllo théré\non two linés thé térm 2.50 {$gone}");
+    let nan = fluent_args!["n" => 1, "name" => f64::NAN];
+    assert_eq!(text(&bundle, "value", Some(&nan)).0, "séé NaN NaN 1");
+    bundle.set_transform(None);
+    assert_eq!(shown(&bundle, 1), "see Jane Jane 1");
+}
+
 #[test]
 fn a_small_stack_is_enough_for_a_small_budget() {
     let thread = std::thread::Builder::new().stack_size(1 << 20);
