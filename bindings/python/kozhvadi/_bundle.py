@@ -159,8 +159,8 @@ class Bundle:
         self._shown: dict[str, Bundle] = {}
         self._free = weakref.finalize(self, c.library.fluent_bundle_free, self._handle)
         # The extension takes numbers without their options, so it isn't for a bundle that shows them.
-        has_extension = calls_type is not None and shows is None
-        self._calls = calls_type(ctypes.addressof(self._handle), self._handle, self._lock) if has_extension else None
+        new_calls, address = None if shows else calls_type, ctypes.addressof(self._handle)
+        self._calls = new_calls(address, self._handle, self._lock) if new_calls else None
 
     def _new(self, named: Sources, tag: bytes) -> int:
         """Makes the bundle that the library keeps, and gives its status."""

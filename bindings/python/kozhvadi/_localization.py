@@ -54,7 +54,7 @@ class Localization:
         formatter: Formatter = str,
         functions: Functions | None = None,
     ) -> None:
-        texts = {
+        texts: dict[str, list[str] | Bundle] = {
             locale: [given] if isinstance(given, str) else given if isinstance(given, Bundle) else list(given)
             for locale, given in sources.items()
         }
@@ -93,7 +93,7 @@ class Localization:
         wanted = system_languages() if requested is None else requested
         used = negotiate_languages(wanted, available, default)
         texts = cls.__new__(cls)
-        paths = {locale: available[locale] for locale in used}
+        paths: dict[str, list[str] | Bundle] = {locale: available[locale] for locale in used}
         settings = {"numbers": numbers, "isolating": isolating, "overriding": overriding, "formatter": formatter}
         texts._keep(paths, Bundle.from_files, functions=functions_of(functions), **settings)
         return texts
