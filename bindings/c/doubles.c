@@ -30,7 +30,7 @@ int main(void) {
         struct FluentArgument argument = fluent_double_argument("x", of_bits(strtoull(line, NULL, 16)), &digits);
         double again = 0;
         bool is_read = fluent_argument_double(&argument, &again);
-        printf("%s %s %016" PRIx64 "\n", argument.kind == FLUENT_DECIMAL ? "decimal" : "text", digits.text,
+        printf("%s %s %016" PRIx64 "\n", argument.kind == FLUENT_FLOAT ? "float" : "text", digits.text,
             is_read ? bits_of(again) : 0);
     }
     return 0;

@@ -39,7 +39,7 @@ def is_right(value: float, line: str) -> bool:
     kind, text, read = line.split(" ")
     wanted = written(value)
     if wanted is not None:
-        return kind == "decimal" and text == wanted and read == bits(float(text))
+        return kind == "float" and text == wanted and read == bits(float(text))
     # Of a few powers of two above 2^64 `repr` finds a digit less.
     is_same = text == repr(value) or (float(text) == value and len(text) == len(repr(value)) + 1)
     return kind == "text" and is_same and read == "0" * 16

@@ -192,10 +192,16 @@ static void try_depth(void) {
 int main(void) {
     struct FluentBundle bundle = {0};
     struct FluentCounts counts = {0};
-    check("a locale", fluent_bundle_of(SOURCE, "plx", false, &bundle) == FLUENT_UNKNOWN_LOCALE && !bundle.held);
+    check("a locale", fluent_bundle_of(SOURCE, "x", false, &bundle) == FLUENT_UNKNOWN_LOCALE && !bundle.held);
     for (const char *const *locale = POSIX; *locale; locale++)
         check(*locale, fluent_bundle_of(SOURCE, *locale, false, &bundle) == FLUENT_READ
             && shows(&bundle, fluent_integer_argument("n", 1), "1 other"));
+    check("rules of its own", fluent_has_plural_rules(fluent_bytes("pt_AO"), 5));
+    check("rules of the root", !fluent_has_plural_rules(fluent_bytes("oc"), 2)
+        && fluent_bundle_of(SOURCE, "oc", false, &bundle) == FLUENT_READ
+        && shows(&bundle, fluent_integer_argument("n", 1), "1 other"));
+    check("rules of a program without a locale", fluent_has_plural_rules(fluent_bytes("C"), 1));
+    check("no tag has rules", !fluent_has_plural_rules(fluent_bytes("pl pl"), 5));
     check("the version", fluent_version() == FLUENT_VERSION);
     check("a bundle", fluent_bundle_of(SOURCE, NULL, false, &bundle) == FLUENT_READ && bundle.held);
     check("counts", fluent_parse(fluent_bytes(SOURCE), fluent_len(SOURCE), &counts) == FLUENT_READ && counts.messages == 2);

@@ -21,7 +21,7 @@ static inline const char *fluent_status_text(uint32_t status) {
     case FLUENT_NO_MEMORY:
         return "memory was refused, or it nests too deep for the budget of the stack";
     case FLUENT_UNKNOWN_LOCALE:
-        return "the locale has no plural rules";
+        return "the locale is no tag of a language";
     case FLUENT_NO_MESSAGE:
         return "there is no message of the id";
     case FLUENT_NO_PATTERN:

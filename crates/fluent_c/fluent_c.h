@@ -46,7 +46,7 @@ uint32_t fluent_version(void);
 #define FLUENT_NOT_UTF8 1
 /* Memory was refused, or placeables, calls and selects nest too deep for the budget of the stack. */
 #define FLUENT_NO_MEMORY 2
-/* The locale has no plural rules. */
+/* The locale is no tag of a language. */
 #define FLUENT_UNKNOWN_LOCALE 3
 /* There is no message of the id. */
 #define FLUENT_NO_MESSAGE 4
@@ -175,7 +175,7 @@ struct FluentLintOptions {
  *
  * It returns FLUENT_READ if the catalog has no error, and with `strict` no warning, and else FLUENT_HAS_ERRORS: in both
  * cases `report` is the report, which is empty if nothing was found. Else it returns FLUENT_NOT_UTF8 if a name or a text
- * isn't UTF-8, FLUENT_UNKNOWN_LOCALE if the locale has no plural rules, or FLUENT_NO_MEMORY, and `report` is unchanged.
+ * isn't UTF-8, FLUENT_UNKNOWN_LOCALE if the locale is no tag, or FLUENT_NO_MEMORY, and `report` is unchanged.
  * `files` and `references` need pointers that aren't null, also if a count is 0.
  */
 uint32_t fluent_lint(
@@ -197,12 +197,13 @@ uint32_t fluent_lint(
  * them: it is a tag such as "pl" or "pt-PT". The empty tag has the rules of English, and plain numbers, such as 1234.5.
  * "C" and "POSIX", in letters of any case, have no rules but `other`, as "und" has, and plain numbers; so have these with
  * the codeset UTF-8, with and without its `-`, such as "C.UTF-8" and "POSIX.utf8".
- * docs/reference/plurals.md says which locales have rules, and docs/reference/numerals.md how numbers are written. If
- * `isolating` is true, placeables are between the marks U+2068 and U+2069. Of duplicate ids the last entry counts if
- * `overriding` is true, and else the first. If a source has errors, only its junk is left out.
+ * A language without rules of its own, such as "oc", has those of "und", too. docs/reference/plurals.md says what a tag is
+ * and which have rules, and docs/reference/numerals.md how numbers are written. If `isolating` is true, placeables are
+ * between the marks U+2068 and U+2069. Of duplicate ids the last entry counts if `overriding` is true, and else the first.
+ * If a source has errors, only its junk is left out.
  *
  * It returns FLUENT_READ, also if a source has errors or a request is bad; FLUENT_NOT_UTF8 if a source isn't UTF-8;
- * FLUENT_UNKNOWN_LOCALE if the locale has no plural rules; or FLUENT_NO_MEMORY.
+ * FLUENT_UNKNOWN_LOCALE if the locale is no tag; or FLUENT_NO_MEMORY.
  *
  * The sources are read at each call: put as many request lines into one call as there are. `sources` and `locale` need
  * pointers that aren't null, also if `count` or `locale_len` is 0.
@@ -234,6 +235,11 @@ uint32_t fluent_answer_plain(
 
 /* Frees a text, if there is one. There is none then. `made` isn't null, but in a program that includes fluent.h. */
 void fluent_free_text(struct FluentText *made);
+
+/* Whether the language of a locale has plural rules of its own. For a tag such as "oc" it hasn't: every number is `other` then.
+ * It hasn't for a text that is no tag, by which no bundle is made. "C" and "POSIX" have those of "und". `locale` isn't null,
+ * also if `locale_len` is 0. */
+bool fluent_has_plural_rules(const uint8_t *locale, size_t locale_len);
 
 /* How many of a program's languages are used: all that suit any of the user's, to fall back along; the best one for each
  * of the user's; or one, the best for the first of the user's that any suits. */
@@ -278,7 +284,7 @@ struct FluentBundle {
 /* Reads sources, and makes a bundle of them. It copies them: you may free them once the call returns.
  *
  * `locale`, `isolating` and `overriding` are those of fluent_answer. It returns FLUENT_READ, also if a source has
- * errors; FLUENT_NOT_UTF8 if a source isn't UTF-8; FLUENT_UNKNOWN_LOCALE if the locale has no plural rules; or
+ * errors; FLUENT_NOT_UTF8 if a source isn't UTF-8; FLUENT_UNKNOWN_LOCALE if the locale is no tag; or
  * FLUENT_NO_MEMORY. `sources` and `locale` need pointers that aren't null, also if `count` or `locale_len` is 0.
  */
 uint32_t fluent_bundle_new(
@@ -359,9 +365,12 @@ uint32_t fluent_bundle_new_with(
 #define FLUENT_UNSIGNED 3
 /* No value: an argument that is shown as nothing, or a call that has no answer and is shown as `NAME()`. */
 #define FLUENT_NO_VALUE 4
+/* A float: a number written as a decimal, whose digits don't say how many are shown. 0.3333333333333333 is shown with as many
+ * as the locale shows at most, which are three, unless the message asks for others; with plain numbers it is shown with all. */
+#define FLUENT_FLOAT 5
 
-/* An argument: its name, without `$`, and its value as its kind says. `text` is read for the first two kinds; for the
- * others it still needs a pointer that isn't null, and `text_len` is 0. */
+/* An argument: its name, without `$`, and its value as its kind says. `text` is read for a text, a decimal and a float; for
+ * the others it still needs a pointer that isn't null, and `text_len` is 0. */
 struct FluentArgument {
     const uint8_t *name FLUENT_ZERO;
     size_t name_len FLUENT_ZERO;

@@ -86,7 +86,8 @@ static inline void fluent_write_other(double value, bool is_negative, struct Flu
 }
 
 /* An argument that is a number, from a double: the shortest decimal that is read as the same double, such as 0.1, rounded to
- * 18 digits after the point. 1.0 is 1. If it is infinite, isn't a number, or is 2^64 or more on either side of 0, it is a
+ * 18 digits after the point. 1.0 is 1. It is shown with as many digits as the locale shows at most, unless the message asks
+ * for others: FLUENT_FLOAT. If it is infinite, isn't a number, or is 2^64 or more on either side of 0, it is a
  * text, such as `inf`, `nan` or `1e+22`. The locale that setlocale has set doesn't matter.
  *
  * The text is in `digits`, which has to last as long as the argument, and nothing is allocated. */
@@ -100,7 +101,7 @@ static inline struct FluentArgument fluent_double_argument(const char *name, dou
     else
         fluent_write_other(distance, is_negative, digits);
     argument = fluent_text_argument(name, digits->text);
-    argument.kind = is_decimal ? FLUENT_DECIMAL : FLUENT_TEXT;
+    argument.kind = is_decimal ? FLUENT_FLOAT : FLUENT_TEXT;
     return argument;
 }
 
@@ -112,7 +113,7 @@ static inline bool fluent_argument_double(const struct FluentArgument *argument,
     char shown[64];
     size_t each, end = 0, places = 0;
     bool is_after = false;
-    if (!argument || argument->kind != FLUENT_DECIMAL)
+    if (!argument || (argument->kind != FLUENT_DECIMAL && argument->kind != FLUENT_FLOAT))
         return false;
     for (each = 0; each < argument->text_len && end < 40 && places < 18; each++) {
         if (argument->text[each] == '.') {

@@ -65,7 +65,7 @@ static const char *refusal(uint32_t answered) {
     case FLUENT_NOT_UTF8:
         return "a source isn't UTF-8";
     case FLUENT_UNKNOWN_LOCALE:
-        return "the locale has no plural rules";
+        return "the locale is no tag of a language";
     default:
         return "out of memory";
     }

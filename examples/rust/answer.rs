@@ -64,7 +64,7 @@ enum Refusal {
 impl fmt::Display for Refusal {
     fn fmt(&self, f: &mut fmt::Formatter<'_>) -> fmt::Result {
         f.write_str(match self {
-            Refusal::UnknownLocale => "the locale has no plural rules",
+            Refusal::UnknownLocale => "the locale is no tag of a language",
             Refusal::OutOfMemory => "out of memory",
         })
     }

@@ -37,8 +37,8 @@ static const struct Row ROWS[] = {
     {"English", {FILES}, 1, NONE, false, false, FILES_ASKED, FLUENT_READ,
      BYTES("ok 4 0\nplik\nok 7 0\nplik\xc3\xb3w\nok 7 0\nplik\xc3\xb3w\n")},
     {"no UTF-8", {WELCOME, OTHER}, 2, NONE, false, false, BYTES("welcome\n"), FLUENT_NOT_UTF8, {0}},
-    {"no UTF-8 and no rules", {WELCOME, OTHER}, 2, BYTES("plx"), false, false, BYTES("welcome\n"), FLUENT_NOT_UTF8, {0}},
-    {"no rules", {FILES}, 1, BYTES("plx"), false, false, FILES_ASKED, FLUENT_UNKNOWN_LOCALE, {0}},
+    {"no UTF-8 and no tag", {WELCOME, OTHER}, 2, BYTES("x"), false, false, BYTES("welcome\n"), FLUENT_NOT_UTF8, {0}},
+    {"no tag", {FILES}, 1, BYTES("x"), false, false, FILES_ASKED, FLUENT_UNKNOWN_LOCALE, {0}},
     {"no tag", {FILES}, 1, BYTES("\xff"), false, false, FILES_ASKED, FLUENT_UNKNOWN_LOCALE, {0}},
     {"half a tag", {FILES}, 1, BYTES("-"), false, false, FILES_ASKED, FLUENT_UNKNOWN_LOCALE, {0}},
     {"German numbers", {NUMBERS}, 1, BYTES("de"), false, false, NUMBERS_ASKED, FLUENT_READ,
@@ -56,7 +56,7 @@ static const struct Row PLAIN_ROWS[] = {
     {"Polish, and plain numbers", {FILES}, 1, BYTES("pl_PL.UTF-8"), false, false, FILES_ASKED, FLUENT_READ,
      BYTES("ok 4 0\nplik\nok 5 0\npliki\nok 7 0\nplik\xc3\xb3w\n")},
     {"no UTF-8", {WELCOME, OTHER}, 2, NONE, false, false, BYTES("welcome\n"), FLUENT_NOT_UTF8, {0}},
-    {"no rules", {FILES}, 1, BYTES("plx"), false, false, FILES_ASKED, FLUENT_UNKNOWN_LOCALE, {0}},
+    {"no tag", {FILES}, 1, BYTES("x"), false, false, FILES_ASKED, FLUENT_UNKNOWN_LOCALE, {0}},
 };
 
 typedef uint32_t Answering(const struct FluentSource *, size_t, const uint8_t *, size_t, bool, bool, const uint8_t *, size_t, struct FluentText *);

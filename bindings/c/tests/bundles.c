@@ -28,8 +28,8 @@ static const struct Row ROWS[] = {
     {"errors", {MESSAGES, AGAIN}, 2, BYTES("en-GB"), FLUENT_READ,
      BYTES("source 2: bytes 18..19: ExpectedToken\nAttempt to override an existing message: \"welcome\".\n")},
     {"no UTF-8", {MESSAGES, OTHER}, 2, NONE, FLUENT_NOT_UTF8, {0}},
-    {"no UTF-8 and no rules", {OTHER}, 1, BYTES("plx"), FLUENT_NOT_UTF8, {0}},
-    {"no rules", {MESSAGES}, 1, BYTES("plx"), FLUENT_UNKNOWN_LOCALE, {0}},
+    {"no UTF-8 and no tag", {OTHER}, 1, BYTES("x"), FLUENT_NOT_UTF8, {0}},
+    {"no tag", {MESSAGES}, 1, BYTES("x"), FLUENT_UNKNOWN_LOCALE, {0}},
 };
 
 /* What is looked for in the bundle of `messages`. */

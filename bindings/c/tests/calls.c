@@ -59,7 +59,7 @@ static const struct Row ROWS[] = {
     {"a function is no message", BYTES("PLATFORM"), NONE, {{0}}, 0, FLUENT_NO_MESSAGE, {0}, {0}},
     {"no value of a message", BYTES("titled"), NONE, {{0}}, 0, FLUENT_NO_PATTERN, {0}, {0}},
     {"no attribute", BYTES("titled"), BYTES("b"), {{0}}, 0, FLUENT_NO_PATTERN, {0}, {0}},
-    {"an unknown kind", BYTES("plain"), NONE, {{NAMED("x"), TEXT(""), .kind = 5}}, 1, FLUENT_BAD_ARGUMENT, {0}, {0}},
+    {"an unknown kind", BYTES("plain"), NONE, {{NAMED("x"), TEXT(""), .kind = 6}}, 1, FLUENT_BAD_ARGUMENT, {0}, {0}},
     {"no number", BYTES("plain"), NONE, {{NAMED("x"), TEXT("y"), .kind = FLUENT_DECIMAL}}, 1, FLUENT_BAD_ARGUMENT, {0}, {0}},
     {"a call that isn't UTF-8", BYTES("plain"), NONE, {SAYS("\xff", "")}, 1, FLUENT_NOT_UTF8, {0}, {0}},
     {"an answer that isn't", BYTES("plain"), NONE, {SAYS("x", "\xff")}, 1, FLUENT_NOT_UTF8, {0}, {0}},
@@ -157,7 +157,7 @@ static bool try_making(void) {
     count_try(&made, "a name that isn't UTF-8", make(&bundle, &other, 1) == FLUENT_NOT_UTF8 && bundle.held);
     count_try(&made, "a source that isn't",
         fluent_bundle_new_calling(&other, 1, &options, FUNCTIONS, 1, &bundle) == FLUENT_NOT_UTF8 && bundle.held);
-    options.locale = (const uint8_t *)"plx";
+    options.locale = (const uint8_t *)"x";
     options.locale_len = 3;
     count_try(&made, "no rules",
         fluent_bundle_new_calling(SOURCES, 1, &options, FUNCTIONS, 1, &bundle) == FLUENT_UNKNOWN_LOCALE && bundle.held);

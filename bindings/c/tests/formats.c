@@ -29,6 +29,10 @@ static const struct Row ROWS[] = {
      BYTES("18\xc2\xa0" "446\xc2\xa0" "744\xc2\xa0" "073\xc2\xa0" "709\xc2\xa0" "551\xc2\xa0" "615 other"), {0}},
     {"a decimal", BYTES("n"), NONE, {{NAMED("n"), TEXT("1.50"), .kind = FLUENT_DECIMAL}}, 1, FLUENT_READ, BYTES("1,50 other"), {0}},
     {"the decimal 1", BYTES("n"), NONE, {{NAMED("n"), TEXT("1"), .kind = FLUENT_DECIMAL}}, 1, FLUENT_READ, BYTES("one"), {0}},
+    {"a float", BYTES("n"), NONE, {{NAMED("n"), TEXT("0.3333333333333333"), .kind = FLUENT_FLOAT}}, 1, FLUENT_READ,
+     BYTES("0,333 other"), {0}},
+    {"the float 1", BYTES("n"), NONE, {{NAMED("n"), TEXT("1.0"), .kind = FLUENT_FLOAT}}, 1, FLUENT_READ, BYTES("one"), {0}},
+    {"no float", BYTES("n"), NONE, {{NAMED("n"), TEXT("nan"), .kind = FLUENT_FLOAT}}, 1, FLUENT_BAD_ARGUMENT, {0}, {0}},
     {"the text 1", BYTES("n"), NONE, {{NAMED("n"), TEXT("1"), .kind = FLUENT_TEXT}}, 1, FLUENT_READ, BYTES("1 other"), {0}},
     {"a text", BYTES("welcome"), NONE, {{NAMED("name"), TEXT("Jane"), .kind = FLUENT_TEXT}}, 1, FLUENT_READ, BYTES("Welcome, Jane."), {0}},
     {"two of one name", BYTES("welcome"), NONE,
@@ -40,7 +44,7 @@ static const struct Row ROWS[] = {
     {"an argument too many", BYTES("login"), BYTES("title"), {{NAMED("n"), TEXT(""), .kind = FLUENT_TEXT}}, 1, FLUENT_READ, BYTES("Log in"), {0}},
     {"three errors", BYTES("both"), NONE, {{0}}, 0, FLUENT_READ, BYTES("{$a} {$b} {both}"),
      BYTES("Unknown variable: $a\nUnknown variable: $b\nCyclical dependency detected\n")},
-    {"an unknown kind", BYTES("n"), NONE, {{NAMED("n"), TEXT(""), .kind = 5}}, 1, FLUENT_BAD_ARGUMENT, {0}, {0}},
+    {"an unknown kind", BYTES("n"), NONE, {{NAMED("n"), TEXT(""), .kind = 6}}, 1, FLUENT_BAD_ARGUMENT, {0}, {0}},
     {"no number", BYTES("n"), NONE, {{NAMED("n"), TEXT("1e3"), .kind = FLUENT_DECIMAL}}, 1, FLUENT_BAD_ARGUMENT, {0}, {0}},
     {"no number, and no message", BYTES("nothing"), NONE, {{NAMED("n"), TEXT(""), .kind = FLUENT_DECIMAL}}, 1, FLUENT_BAD_ARGUMENT, {0}, {0}},
     {"no message", BYTES("nothing"), NONE, {{0}}, 0, FLUENT_NO_MESSAGE, {0}, {0}},
@@ -124,7 +128,7 @@ static void try_many(struct Tally *tally, struct FluentBundle *bundle) {
     arguments[3] = (struct FluentArgument){NAMED("name"), TEXT("Jane"), .kind = FLUENT_TEXT};
     arguments[80] = (struct FluentArgument){NAMED("name"), TEXT("Jim"), .kind = FLUENT_TEXT};
     try_all(tally, bundle, &row, arguments, MANY);
-    arguments[50].kind = 5;
+    arguments[50].kind = 6;
     row = (struct Row){"an unknown kind among many", BYTES("welcome"), NONE, {{0}}, 0, FLUENT_BAD_ARGUMENT, {0}, {0}};
     try_all(tally, bundle, &row, arguments, MANY);
     arguments[50] = (struct FluentArgument){NAMED("\xff"), TEXT(""), .kind = FLUENT_TEXT};

@@ -78,9 +78,9 @@ static const struct Row ROWS[] = {
            "{\"code\":\"missing-category\",\"column\":7,\"entry\":\"a\",\"file\":\"pl.ftl\",\"hint\":null,\"line\":1,\"offset\":6,"
            "\"severity\":\"warning\",\"text\":\"there is no variant for the plural category `many`\"}\n")},
     {"the locale C", {PLURAL}, NO_FILE, NO_FUNCTION, BYTES("C"), false, true, FLUENT_READ, NONE},
-    {"an unknown locale", {PLURAL}, NO_FILE, NO_FUNCTION, BYTES("plx"), false, false, FLUENT_UNKNOWN_LOCALE, {0}},
+    {"an unknown locale", {PLURAL}, NO_FILE, NO_FUNCTION, BYTES("x"), false, false, FLUENT_UNKNOWN_LOCALE, {0}},
     {"a name", {FILE_OF("\xff", "")}, NO_FILE, NO_FUNCTION, NONE, false, false, FLUENT_NOT_UTF8, {0}},
-    {"a text", {FILE_OF("a", ""), FILE_OF("b", "\xff")}, NO_FILE, NO_FUNCTION, BYTES("plx"), false, false, FLUENT_NOT_UTF8, {0}},
+    {"a text", {FILE_OF("a", ""), FILE_OF("b", "\xff")}, NO_FILE, NO_FUNCTION, BYTES("x"), false, false, FLUENT_NOT_UTF8, {0}},
     {"a reference's name", NO_FILE, {FILE_OF("a", ""), FILE_OF("\xff", "")}, NO_FUNCTION, NONE, false, false, FLUENT_NOT_UTF8, {0}},
     {"a reference's text", NO_FILE, {FILE_OF("a", "\xff")}, NO_FUNCTION, NONE, false, false, FLUENT_NOT_UTF8, {0}},
     {"a function's name", NO_FILE, NO_FILE, {BYTES("F"), BYTES("\xff")}, NONE, false, false, FLUENT_NOT_UTF8, {0}},

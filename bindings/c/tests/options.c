@@ -22,7 +22,7 @@ static const struct Row ROWS[] = {
     {"plain numbers in German", {SIZE, TAG("de"), 0, false, false, true}, FLUENT_READ, BYTES("is 1234.5")},
     {"the last entry", {SIZE, TAG("de"), 0, false, true, false}, FLUENT_READ, BYTES("again 1.234,5")},
     {"a budget", {SIZE, TAG("de"), 1000000, false, false, false}, FLUENT_READ, BYTES("is 1.234,5")},
-    {"no rules", {SIZE, TAG("plx"), 0, false, false, false}, FLUENT_UNKNOWN_LOCALE, {0}},
+    {"no tag", {SIZE, TAG("x"), 0, false, false, false}, FLUENT_UNKNOWN_LOCALE, {0}},
     {"no size", {0, TAG(""), 0, false, false, false}, FLUENT_BAD_ARGUMENT, {0}},
     {"a smaller size", {SIZE - 1, TAG(""), 0, false, false, false}, FLUENT_BAD_ARGUMENT, {0}},
     {"a larger size", {SIZE + 8, TAG(""), 0, false, false, false}, FLUENT_BAD_ARGUMENT, {0}},

@@ -15,9 +15,10 @@ from ._errors import (
     SourceError,
     UnknownLocaleError,
 )
-from ._languages import accepted_languages, negotiate_languages, system_languages
+from ._languages import accepted_languages, has_plural_rules, negotiate_languages, system_languages
 from ._linting import FileCounts, Finding, Report, TidyError, lint, tidy
 from ._localization import Localization, LocalizedAnswer
+from ._numbers import NumberFormatOptions, fluent_number
 from ._occurrences import Occurrence, Symbol, occurrences
 from ._values import Formatter, Number, Value
 
@@ -35,6 +36,7 @@ __all__ = [
     "LocalizedAnswer",
     "MissingMessageError",
     "Number",
+    "NumberFormatOptions",
     "Occurrence",
     "Report",
     "ResolverError",
@@ -44,6 +46,8 @@ __all__ = [
     "UnknownLocaleError",
     "Value",
     "accepted_languages",
+    "fluent_number",
+    "has_plural_rules",
     "lint",
     "negotiate_languages",
     "occurrences",

@@ -18,10 +18,12 @@ from . import _library as c
 from ._answers import Answer, resolver_errors
 from ._errors import FluentError, FluentWarning, MissingMessageError, SourceError, UnknownLocaleError
 from ._extension import calls_type
-from ._functions import Answers, Functions, functions_of
+from ._functions import Answers, Called, Functions, called_of, functions_of
 from ._locks import new_lock
+from ._numbers import FluentNumber
 from ._reports import Sources, source_errors, too_deep
-from ._values import Formatter, arguments_of, encoded
+from ._rewriting import rewritten
+from ._values import Formatter, NeedsShowing, arguments_of, encoded
 
 Paths = Union[str, "os.PathLike[str]", Iterable[Union[str, "os.PathLike[str]"]]]
 
@@ -62,12 +64,13 @@ class Bundle:
     you set none.
 
     `functions` are those that messages call, by their names: `functions={"PLATFORM": lambda: sys.platform}` for
-    `{ PLATFORM() }`. A function gets texts as `str`, numbers as `int` or `Decimal`, and `None` for what has no value; it
-    gives a text, a number, what the formatter takes, or `None` for no value. It is called once for each different call
-    that an answer meets, so it has to give the same for the same arguments. If it raises an `Exception`, as for arguments
-    that it doesn't take, the call has no value, and the answer a `ResolverError` of the kind "raised". `ValueError` is
-    raised for a name that no message calls: `NUMBER` comes with the library, and others begin with a capital letter and
-    have capital letters, digits, `_` and `-`.
+    `{ PLATFORM() }`. A function gets texts as `str`, numbers as `int` or `Decimal`, and `None` for what has no value; what
+    the formatter made a text of, such as a date, it gets itself, and a number of `fluent_number`, too. It gives a text, a
+    number, what the formatter takes, or `None` for no value. It is called once for each different call that an answer
+    meets, so it has to give the same for the same arguments. If it raises an `Exception`, as for arguments that it doesn't
+    take, the call is shown as `{PLATFORM()}`, and the answer has a `ResolverError` of the kind "raised". `NUMBER` is that of
+    the library, unless it is among them. `ValueError` is raised for a name that no message calls: others begin with a
+    capital letter and have capital letters, digits, `_` and `-`.
 
     `stack` is how many bytes of the machine's stack a message or a term may take when it is read, and an answer: the
     usual 1.5 MB suit a thread with 2 MB. A source that nests deeper is left out, which is one of the `errors`, and such
@@ -127,6 +130,7 @@ class Bundle:
         formatter: Formatter,
         functions: Functions | None,
         stack: SupportsIndex,
+        shows: Callable[[FluentNumber], str] | None = None,
     ) -> None:
         tag = b"" if locale is None else encoded(locale, "the locale")
         if not callable(formatter):
@@ -134,45 +138,85 @@ class Bundle:
         self._lock, self._handle = new_lock(), c.FluentBundle()
         self._spare: list[_Texts] = []
         self._functions = functions_of(functions)
+        self._called = called_of(self._functions, shows)
         self._formatter, self._overriding, self._stack = formatter, bool(overriding), _budget(stack)
+        self._locale, self._isolating, self._numbers = locale, bool(isolating), bool(numbers)
         self._errors: list[SourceError] = []
-        made = self._new(named, tag, bool(isolating), bool(numbers))
+        made = self._new(named, tag)
         if made == c.NO_MEMORY:
             named = self._without_deep(named)
-            made = self._new(named, tag, bool(isolating), bool(numbers))
+            made = self._new(named, tag)
         if made == c.UNKNOWN_LOCALE:
-            raise UnknownLocaleError(f"the locale {locale!r} has no plural rules")
+            raise UnknownLocaleError(f"the locale {locale!r} is no tag of a language")
         if made != c.READ:
             raise MemoryError("memory ran out")
-        # What `errors` needs, until it was asked; and whether the next answer warns of them.
-        self._sources: Sources | None = named
+        # The sources; whether nobody asked for `errors` yet; and whether the next answer warns of them.
+        self._sources: Sources = named
+        self._is_unread = True
         self._warns = True
+        # What shows numbers with options: the same messages with each value shown by a call, and a number by its options.
+        self._showing: Bundle | None = None
+        self._shown: dict[str, Bundle] = {}
         self._free = weakref.finalize(self, c.library.fluent_bundle_free, self._handle)
-        self._calls = calls_type(ctypes.addressof(self._handle), self._handle, self._lock) if calls_type else None
+        # The extension takes numbers without their options, so it isn't for a bundle that shows them.
+        new_calls, address = None if shows else calls_type, ctypes.addressof(self._handle)
+        self._calls = new_calls(address, self._handle, self._lock) if new_calls else None
 
-    def _new(self, named: Sources, tag: bytes, isolating: bool, numbers: bool) -> int:
+    def _new(self, named: Sources, tag: bytes) -> int:
         """Makes the bundle that the library keeps, and gives its status."""
-        texts = [text for _, text in named]
-        if self._functions:
-            return self._read_calling(texts, tag, isolating, numbers)
+        if self._called:
+            texts = [self._as_called(text) for _, text in named]
+            return self._read_calling(texts, tag)
+        return self._read([text for _, text in named], tag, self._isolating, self._handle, self._numbers)
+
+    def _as_called(self, text: bytes) -> bytes:
+        """A source in which functions have the names that the library calls."""
+        if not self._is_rewritten():
+            return text
+        return rewritten(text.decode(), self._functions, self._called.shows is not None).encode()
+
+    def _is_rewritten(self) -> bool:
+        return "NUMBER" in self._functions or self._called.shows is not None
+
+    def _read(self, texts: list[bytes], tag: bytes, isolating: bool, handle: c.FluentBundle, numbers: bool) -> int:
         new = c.library.fluent_bundle_new_within if numbers else c.library.fluent_bundle_new_plain
-        return self._read(texts, tag, isolating, self._handle, new)
-
-    def _read(
-        self, texts: list[bytes], tag: bytes, isolating: bool, handle: c.FluentBundle, new: Callable[..., int]
-    ) -> int:
         array, count = c.sources(texts)
-        return new(array, count, tag, len(tag), isolating, self._overriding, self._stack, handle)
+        made: int = new(array, count, tag, len(tag), isolating, self._overriding, self._stack, handle)
+        return made
 
-    def _read_calling(self, texts: list[bytes], tag: bytes, isolating: bool, numbers: bool) -> int:
+    def _read_calling(self, texts: list[bytes], tag: bytes) -> int:
         """Reads sources whose messages call functions."""
+        size = ctypes.sizeof(c.FluentBundleOptions)
         options = c.FluentBundleOptions(
-            ctypes.sizeof(c.FluentBundleOptions), tag, len(tag), self._stack, isolating, self._overriding, not numbers
+            size, tag, len(tag), self._stack, self._isolating, self._overriding, not self._numbers
         )
         array, count = c.sources(texts)
-        names, named = c.sources([name.encode() for name in self._functions])
+        names, named = c.sources([name.encode() for name in self._called])
         made: int = c.library.fluent_bundle_new_calling(array, count, options, names, named, self._handle)
         return made
+
+    def _that_shows(self) -> Bundle:
+        """A bundle of the same messages that shows numbers by all their options, which is made if it isn't there."""
+        with self._lock:
+            if self._showing is None:
+                bundle = Bundle.__new__(Bundle)
+                bundle._make(
+                    self._sources, self._locale, self._numbers, self._isolating, self._overriding, self._formatter,
+                    self._functions, self._stack, self._number_shown,
+                )
+                bundle._hush()
+                self._showing = bundle
+            return self._showing
+
+    def _number_shown(self, number: FluentNumber) -> str:
+        """A number as `NUMBER` shows it by its options."""
+        options = number.options.arguments()
+        with self._lock:
+            if options not in self._shown:
+                source = f"number = {{ NUMBER($number{options}) }}\n"
+                self._shown[options] = Bundle(source, locale=self._locale, numbers=self._numbers, isolating=False)
+            bundle = self._shown[options]
+        return bundle.format("number", number=number.plain()).text
 
     def _without_deep(self, named: Sources) -> Sources:
         """The sources, with nothing in the place of each that nests too deep, which is an error."""
@@ -196,7 +240,7 @@ class Bundle:
     def _is_read(self, text: bytes) -> bool:
         """Whether the library can read a source."""
         alone = c.FluentBundle()
-        made = self._read([text], b"", True, alone, c.library.fluent_bundle_new_plain)
+        made = self._read([text], b"", True, alone, False)
         c.library.fluent_bundle_free(alone)
         return made == c.READ
 
@@ -211,7 +255,10 @@ class Bundle:
         if self._warns:
             self._warn()
         ask = self._calls.format if self._calls else self._format
-        answered = ask(id, attribute, arguments, self._formatter, self._functions)
+        try:
+            answered = ask(id, attribute, arguments, self._formatter, self._called)
+        except NeedsShowing:
+            return self._that_shows().format(id, attribute, **arguments)
         if isinstance(answered, Answer):
             return answered
         if answered in (c.NO_MESSAGE, c.NO_PATTERN):
@@ -224,7 +271,7 @@ class Bundle:
         attribute: str | None,
         arguments: dict[str, object],
         formatter: Formatter,
-        functions: Functions,
+        functions: Called,
         /,
     ) -> Answer | int:
         """An answer, or the status of the library if there is none. The extension has it too.
@@ -233,8 +280,8 @@ class Bundle:
         """
         key = encoded(id, "the id")
         name = b"" if attribute is None else encoded(attribute, "the name of the attribute")
-        array, count = arguments_of(arguments, formatter)
-        answers = Answers(functions, formatter) if functions else None
+        array, count = arguments_of(arguments, formatter, functions.shows is None)
+        answers = Answers(functions, formatter, arguments) if functions else None
         # An answer that comes up meanwhile, in a function, a signal handler or another thread, has other texts.
         try:
             texts = self._spare.pop()
@@ -353,13 +400,18 @@ class Bundle:
         The sources are read for it once.
         """
         with self._lock:
-            if self._sources is not None:
+            if self._is_unread:
                 self._errors += source_errors(self._report(), self._sources, self._overriding)
-                self._sources = None
+                self._is_unread = False
             self._warns = False
             return list(self._errors)
 
     def _report(self) -> list[str]:
+        if self._is_rewritten():
+            # The places are those of the sources as they are.
+            texts = [text.decode() for _, text in self._sources]
+            with Bundle(texts, overriding=self._overriding, stack=self._stack) as bundle:
+                return bundle._report()
         listed, lines = self._list(c.library.fluent_bundle_errors)
         if listed != c.READ:
             self._refuse(listed, "the report")
@@ -385,6 +437,8 @@ class Bundle:
         """Frees the bundle. It can't be asked then."""
         with self._lock:
             self._free()
+            for bundle in [*self._shown.values(), *([self._showing] if self._showing else [])]:
+                bundle.close()
         self._spare.clear()
 
     def __enter__(self) -> Bundle:

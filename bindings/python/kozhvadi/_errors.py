@@ -15,7 +15,7 @@ class FluentError(Exception):
 
 
 class UnknownLocaleError(FluentError, ValueError):
-    """The locale has no plural rules."""
+    """The locale is no tag of a language."""
 
 
 class MissingMessageError(FluentError, KeyError):

@@ -219,7 +219,8 @@ static void free_answers(struct Answers *answers) {
 }
 
 /* Makes room for one more answer, and what calls the functions if this is the first. */
-static bool make_ready(struct Found *found, PyObject *functions, PyObject *formatter, struct Answers *answers) {
+static bool make_ready(
+    struct Found *found, PyObject *functions, PyObject *formatter, PyObject *given, struct Answers *answers) {
     size_t size = ((size_t)answers->count + 1) * sizeof *answers->list;
     struct FluentArgument *list = PyMem_Realloc(answers->list, size);
     if (!list) {
@@ -228,7 +229,7 @@ static bool make_ready(struct Found *found, PyObject *functions, PyObject *forma
     }
     answers->list = list;
     if (!answers->functions)
-        answers->functions = PyObject_CallFunctionObjArgs(found->answers, functions, formatter, NULL);
+        answers->functions = PyObject_CallFunctionObjArgs(found->answers, functions, formatter, given, NULL);
     return answers->functions != NULL;
 }
 
@@ -291,12 +292,12 @@ static bool ask(
  * may ask the bundle. */
 static PyObject *answered(
     struct Calls *calls, const struct Names *names, const struct Arguments *arguments, PyObject *functions,
-    PyObject *formatter) {
+    PyObject *formatter, PyObject *given) {
     struct Answers answers = {.are_asked_for = PyDict_Size(functions) > 0};
     struct Said said;
     bool is_said;
     while ((is_said = ask(calls, names, arguments, &answers, &said)) && said.status == FLUENT_CALL) {
-        is_said = make_ready(calls->found, functions, formatter, &answers) && add_answer(&answers, said.text);
+        is_said = make_ready(calls->found, functions, formatter, given, &answers) && add_answer(&answers, said.text);
         Py_CLEAR(said.text);
         if (!is_said)
             break;
@@ -324,7 +325,7 @@ static PyObject *format(PyObject *self, PyObject *const *given, Py_ssize_t count
     if (!names_of(calls->found, given, &names))
         return NULL;
     bool are_taken = arguments_of(calls->found, given[2], given[3], &arguments);
-    PyObject *made = are_taken ? answered(calls, &names, &arguments, given[4], given[3]) : NULL;
+    PyObject *made = are_taken ? answered(calls, &names, &arguments, given[4], given[3], given[2]) : NULL;
     free_arguments(&arguments);
     return made;
 }

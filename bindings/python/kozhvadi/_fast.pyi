@@ -2,7 +2,7 @@ import ctypes
 import threading
 
 from ._answers import Answer
-from ._functions import Functions
+from ._functions import Called
 from ._values import Formatter
 
 class Calls:
@@ -13,7 +13,7 @@ class Calls:
         attribute: str | None,
         arguments: dict[str, object],
         formatter: Formatter,
-        functions: Functions,
+        functions: Called,
         /,
     ) -> Answer | int: ...
     def has(self, id: str, attribute: str | None, /) -> int: ...

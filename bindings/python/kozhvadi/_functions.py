@@ -7,15 +7,13 @@ import re
 import threading
 from collections.abc import Callable, Mapping
 from decimal import Decimal
-from typing import Any, Union
+from typing import Any
 
 from . import _library as c
-from ._builtins import BUILTINS
 from ._errors import ResolverError, raised_by
-from ._values import NO_ARGUMENTS, Formatter, encoded, kind_and_text
-
-# What functions are called with: texts, numbers, and `None` for what has no value.
-Argument = Union[str, int, Decimal, None]
+from ._numbers import FluentNumber, NumberFormatOptions, fluent_number
+from ._rewriting import IS_OWN, IS_SHOWN, SHOWN
+from ._values import NO_ARGUMENTS, Formatter, NeedsShowing, encoded, kind_and_text
 
 Functions = Mapping[str, Callable[..., Any]]
 
@@ -53,19 +51,38 @@ def functions_of(given: Functions | None) -> dict[str, Callable[..., Any]]:
 
 def never_called(name: str) -> str | None:
     """Why no message calls a function of this name, or `None` if messages can."""
-    if name in BUILTINS:
-        return f"the function {name} comes with the library, so another of this name is never called"
     if not _NAME.fullmatch(name):
         return f"no message can call the function {name!r}: a name has capital letters, and then digits, `_` and `-` too"
     return None
 
 
+class Called(dict[str, Callable[..., Any]]):
+    """The functions of a bundle by the names that its sources call. `shows` shows a number by all its options."""
+
+    shows: Callable[[FluentNumber], str] | None = None
+
+
+def called_of(functions: Functions, shows: Callable[[FluentNumber], str] | None = None) -> Called:
+    """Functions by the names that rewritten sources call. With `shows` values are shown by calls."""
+    own = {f"NUMBER{IS_OWN}" if name == "NUMBER" else name: function for name, function in functions.items()}
+    called = Called(own)
+    if shows or "NUMBER" in functions:
+        called.update({f"{name}{IS_SHOWN}": function for name, function in functions.items()})
+    if shows:
+        called.shows = shows
+        called[SHOWN] = repr
+        called.setdefault(f"NUMBER{IS_SHOWN}", fluent_number)
+    return called
+
+
 class Answers:
     """The answers to the calls that a message met, and the errors of those whose function raised something."""
 
-    def __init__(self, functions: Functions, formatter: Formatter) -> None:
-        self._functions, self._formatter = functions, formatter
+    def __init__(self, functions: Called, formatter: Formatter, arguments: Mapping[str, object]) -> None:
+        self._functions, self._formatter, self._arguments = functions, formatter, arguments
         self._made: list[Made] = []
+        # The objects that texts and digits stand for, once a function is called.
+        self._objects: dict[tuple[int, str], object] | None = None
         self.errors: list[ResolverError] = []
 
     def given(self) -> c.Arguments:
@@ -80,34 +97,77 @@ class Answers:
         A call has no value if there is no answer that can be shown.
         """
         key, (name, positional, named) = call.encode(), json.loads(call)
-        kind, data = c.NO_VALUE, b""
+        function = name.removesuffix(IS_SHOWN).removesuffix(IS_OWN)
         _nesting.depth += 1
         try:
-            kind, data = self._answer(name, positional, named)
+            kind, data = self._answer(name, function, positional, named)
+        except NeedsShowing:
+            raise
         except Exception as error:
             # Functions that ask for each other's messages without end: the first of them has the error.
             if isinstance(error, RecursionError) and _nesting.depth > 1:
                 raise
-            self.errors.append(raised_by(name, error))
+            self.errors.append(raised_by(function, error))
+            failed = f"{{{function}()}}"
+            self._known()[c.TEXT, failed] = None
+            kind, data = c.TEXT, failed.encode()
         finally:
             _nesting.depth -= 1
         made = (key, kind, data)
         self._made.append(made)
         return made
 
-    def _answer(self, name: str, positional: list[Any], named: dict[str, Any]) -> tuple[int, bytes]:
+    def _answer(self, name: str, function: str, positional: list[Any], named: dict[str, Any]) -> tuple[int, bytes]:
         """The kind of an answer and its text in UTF-8."""
-        given = {key: _argument(value) for key, value in named.items()}
-        value = self._functions[name](*map(_argument, positional), **given)
+        values = [self._argument(value) for value in positional]
+        if name == SHOWN:
+            return self._shown_argument(*values)
+        given = {key: self._argument(value) for key, value in named.items()}
+        value = self._functions[name](*values, **given)
+        is_shown = name.endswith(IS_SHOWN)
         if value is None:
-            return c.NO_VALUE, b""
-        kind, text = kind_and_text(f"{name}()", value, self._formatter)
-        return kind, encoded(text, "the answer of", f"{name}()")
+            return (c.TEXT, f"{function}()".encode()) if is_shown else (c.NO_VALUE, b"")
+        return self._made_of(f"{function}()", value, is_shown)
+
+    def _shown_argument(self, value: object, name: str | None = None) -> tuple[int, bytes]:
+        """An argument of the message as it is shown, or a number that is written in it."""
+        if value is not None or name is None:
+            return self._made_of("a value", value, True)
+        return c.TEXT, b"" if name in self._arguments else f"{{${name}}}".encode()
+
+    def _made_of(self, what: str, value: object, is_shown: bool) -> tuple[int, bytes]:
+        """The kind of a value and its text in UTF-8."""
+        if isinstance(value, FluentNumber) and value.options != NumberFormatOptions():
+            if self._functions.shows is None:
+                raise NeedsShowing
+            if is_shown:
+                return c.TEXT, self._functions.shows(value).encode()
+        kind, text = kind_and_text(what, value, self._formatter, options_count=False)
+        if not isinstance(value, (str, int, float, Decimal)) or isinstance(value, FluentNumber):
+            self._known()[_key(kind, text)] = value
+        return kind, encoded(text, "the answer of", what)
+
+    def _known(self) -> dict[tuple[int, str], object]:
+        """The objects that were passed, by the texts and digits that they have in the library."""
+        if self._objects is None:
+            self._objects = {}
+            for name, value in self._arguments.items():
+                if not isinstance(value, (str, int, float, Decimal)) or isinstance(value, FluentNumber):
+                    kind, text = kind_and_text(name, value, self._formatter, options_count=False)
+                    self._objects[_key(kind, text)] = value
+        return self._objects
+
+    def _argument(self, value: Any) -> Any:
+        """An argument of a function: what was passed, or a text, or a number, which is an `int` if it has no point."""
+        if value is None:
+            return None
+        if isinstance(value, dict):
+            digits: str = value["number"]
+            plain = Decimal(digits) if "." in digits else int(digits)
+            return self._known().get(_key(c.DECIMAL, digits), plain)
+        return self._known().get((c.TEXT, value), value)
 
 
-def _argument(value: Any) -> Argument:
-    """An argument: a number is an `int` if it has no point."""
-    if not isinstance(value, dict):
-        return None if value is None else str(value)
-    digits: str = value["number"]
-    return Decimal(digits) if "." in digits else int(digits)
+def _key(kind: int, text: str) -> tuple[int, str]:
+    """A text, or the digits of a number of whichever kind."""
+    return (c.TEXT, text) if kind == c.TEXT else (c.DECIMAL, text)

@@ -11,6 +11,19 @@ from ._values import encoded
 
 _STRATEGIES = {"filtering": c.FILTERING, "matching": c.MATCHING, "lookup": c.LOOKUP}
 
+def has_plural_rules(locale: str) -> bool:
+    """Whether the language of a locale has plural rules of its own.
+
+    For a tag such as "oc", Occitan, it hasn't: every number is `other` then. It hasn't for a text that is no tag.
+
+    >>> [has_plural_rules(locale) for locale in ("pt-AO", "oc", "no tag")]
+    [True, False, False]
+    """
+    tag = _tag(locale)
+    has_rules: bool = c.library.fluent_has_plural_rules(tag, len(tag))
+    return has_rules
+
+
 # The scripts that modifiers of POSIX names stand for.
 _SCRIPTS = {"latin": "Latn", "cyrillic": "Cyrl", "devanagari": "Deva"}
 

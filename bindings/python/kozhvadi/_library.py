@@ -26,6 +26,7 @@ DECIMAL = 1
 INTEGER = 2
 UNSIGNED = 3
 NO_VALUE = 4
+FLOAT = 5
 
 FILTERING = 0
 MATCHING = 1
@@ -189,6 +190,8 @@ def _load() -> ctypes.CDLL:
         call = getattr(library, name)
         call.argtypes = parameters
         call.restype = ctypes.c_uint32
+    library.fluent_has_plural_rules.argtypes = [ctypes.c_char_p, size]
+    library.fluent_has_plural_rules.restype = ctypes.c_bool
     for name, parameter in {"fluent_bundle_free": bundle, "fluent_free_text": text}.items():
         call = getattr(library, name)
         call.argtypes = [parameter]

@@ -101,7 +101,7 @@ def lint(
     plural categories are looked for, and `functions` are those of the program. With `notes` notes are reported, too, and
     with `strict` warnings count for the status.
 
-    Raises `UnknownLocaleError` if the locale has no plural rules, `ValueError` if a name or a text can't be written in
+    Raises `UnknownLocaleError` if the locale is no tag of a language, `ValueError` if a name or a text can't be written in
     UTF-8, and `MemoryError` if a text nests too deep for 1.5 MB of the machine's stack.
     """
     if isinstance(functions, (str, bytes)):
@@ -114,7 +114,7 @@ def lint(
     try:
         status = c.library.fluent_lint(*given, *compared, options, text)
         if status == c.UNKNOWN_LOCALE:
-            raise UnknownLocaleError(f"the locale {locale!r} has no plural rules")
+            raise UnknownLocaleError(f"the locale {locale!r} is no tag of a language")
         if status not in (c.READ, c.HAS_ERRORS):
             refuse(status, "the report")
         lines = c.lines_of(text)

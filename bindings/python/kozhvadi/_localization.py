@@ -9,7 +9,7 @@ from types import TracebackType
 from typing import NamedTuple
 
 from ._bundle import Bundle
-from ._errors import FluentError, MissingMessageError, ResolverError, SourceError, UnknownLocaleError
+from ._errors import FluentError, MissingMessageError, ResolverError, SourceError
 from ._functions import Functions, functions_of
 from ._languages import negotiate_languages, system_languages
 from ._locks import new_lock
@@ -34,14 +34,19 @@ class Localization:
     >>> texts.format("hello").text, texts.format("bye").locale
     ('Hallo', 'en')
 
-    A bundle is made when it is first asked. In a locale without plural rules each number is `other`, and is written
-    plainly. `numbers`, `isolating`, `overriding`, `formatter` and `functions` are those of `Bundle`. Raises
-    `UnknownLocaleError` for a locale that is no language tag.
+    A bundle is made when it is first asked. In place of sources there may be a `Bundle`, which other objects may hold, too:
+    it is used as it is. `numbers`, `isolating`, `overriding`, `formatter` and `functions` are those of `Bundle`. Raises
+    `UnknownLocaleError` for a locale that is no tag of a language.
+
+    >>> english = Bundle("hello = Hello\\n", locale="en")
+    >>> texts = Localization({"fr": "bye = Au revoir\\n", "en": english})
+    >>> texts.format("hello").text
+    'Hello'
     """
 
     def __init__(
         self,
-        sources: Mapping[str, str | Iterable[str]],
+        sources: Mapping[str, str | Iterable[str] | Bundle],
         *,
         numbers: bool = True,
         isolating: bool = True,
@@ -49,7 +54,10 @@ class Localization:
         formatter: Formatter = str,
         functions: Functions | None = None,
     ) -> None:
-        texts = {locale: [given] if isinstance(given, str) else list(given) for locale, given in sources.items()}
+        texts: dict[str, list[str] | Bundle] = {
+            locale: [given] if isinstance(given, str) else given if isinstance(given, Bundle) else list(given)
+            for locale, given in sources.items()
+        }
         settings = {"numbers": numbers, "isolating": isolating, "overriding": overriding, "formatter": formatter}
         self._keep(texts, Bundle, functions=functions_of(functions), **settings)
 
@@ -85,15 +93,17 @@ class Localization:
         wanted = system_languages() if requested is None else requested
         used = negotiate_languages(wanted, available, default)
         texts = cls.__new__(cls)
-        paths = {locale: available[locale] for locale in used}
+        paths: dict[str, list[str] | Bundle] = {locale: available[locale] for locale in used}
         settings = {"numbers": numbers, "isolating": isolating, "overriding": overriding, "formatter": formatter}
         texts._keep(paths, Bundle.from_files, functions=functions_of(functions), **settings)
         return texts
 
-    def _keep(self, sources: Mapping[str, list[str]], make: Callable[..., Bundle], **settings: object) -> None:
+    def _keep(
+        self, sources: Mapping[str, list[str] | Bundle], make: Callable[..., Bundle], **settings: object
+    ) -> None:
         for locale in sources:
-            if not _is_tag(locale):
-                raise UnknownLocaleError(f"the locale {locale!r} is no language tag")
+            # It raises if the locale is no tag.
+            Bundle((), locale=locale).close()
         self.locales = list(sources)
         self._sources, self._make, self._settings = dict(sources), make, settings
         self._bundles: dict[str, Bundle] = {}
@@ -102,14 +112,11 @@ class Localization:
     def _made(self, locale: str) -> Bundle:
         """The bundle of a locale, which is made if it isn't there."""
         with self._lock:
+            sources = self._sources[locale]
+            if isinstance(sources, Bundle):
+                return sources
             if locale not in self._bundles:
-                sources = self._sources[locale]
-                try:
-                    made = self._make(sources, locale=locale, **self._settings)
-                except UnknownLocaleError:
-                    settings: dict[str, object] = {**self._settings, "numbers": False}
-                    made = self._make(sources, locale="und", **settings)
-                self._bundles[locale] = made
+                self._bundles[locale] = self._make(sources, locale=locale, **self._settings)
             return self._bundles[locale]
 
     def _asked(self) -> Iterator[tuple[str, Bundle]]:
@@ -141,7 +148,9 @@ class Localization:
         return {locale: errors for locale, errors in told.items() if errors}
 
     def close(self) -> None:
-        """Frees the bundles. They are made again if they are asked. One that a thread is asking is freed after its answer."""
+        """Frees the bundles that it made. They are made again if they are asked. One that a thread is asking is freed after
+        its answer.
+        """
         with self._lock:
             self._bundles.clear()
 

@@ -9,7 +9,7 @@ from functools import lru_cache
 from typing import NamedTuple, Union
 
 from ._bundle import Bundle
-from ._errors import UnknownLocaleError
+from ._languages import has_plural_rules
 from ._places import Places
 from ._scan import Entry, Part
 
@@ -61,18 +61,24 @@ def categories(locale: str, is_ordinal: bool = False) -> Mapping[str, Sample]:
 
 @lru_cache(maxsize=256)
 def known(locale: str) -> str:
-    """The locale, if it has plural rules, and else the one whose numbers are all `other`."""
-    return locale if has_rules(locale) else "und"
+    """The locale, if it is a language tag, and else the one whose numbers are all `other`."""
+    return locale if is_tag(locale) else "und"
+
+
+@lru_cache(maxsize=1024)
+def is_tag(locale: str) -> bool:
+    """Whether a locale is a language tag, by which a bundle can be made."""
+    try:
+        Bundle((), locale=locale).close()
+    except ValueError:
+        return False
+    return True
 
 
 @lru_cache(maxsize=1024)
 def has_rules(locale: str) -> bool:
-    """Whether a locale has plural rules."""
-    try:
-        Bundle("", locale=locale).close()
-    except (UnknownLocaleError, ValueError):
-        return False
-    return True
+    """Whether a locale has plural rules of its own."""
+    return has_plural_rules(locale)
 
 
 @dataclass

@@ -10,6 +10,7 @@ from decimal import Decimal
 from typing import Union
 
 from . import _library as c
+from ._numbers import FluentNumber, NumberFormatOptions
 
 Value = Union[str, int, float, Decimal]
 Formatter = Callable[[object], Value]
@@ -24,6 +25,10 @@ _DIGITS = Decimal(1).scaleb(-18)
 _ROUNDING = decimal.Context(prec=60, rounding=decimal.ROUND_HALF_UP)
 
 _NUMBER = re.compile(r"[-+]?(?:[0-9]+(?:\.[0-9]{0,18})?|\.[0-9]{1,18})")
+
+
+class NeedsShowing(Exception):
+    """A number has options that its digits don't say, so the bundle has to ask how it is shown."""
 
 
 class Number(str):
@@ -85,9 +90,22 @@ def _number(name: str, value: object) -> tuple[int, str] | None:
         text = str(integer) if abs(integer) < _TOO_LARGE else None
     elif isinstance(value, (float, numbers.Real)):
         text = _real(value)
+        if text is not None:
+            # A float has no written digits, so the locale says how many are shown.
+            return c.FLOAT, text
     else:
         return None
     return (c.TEXT, _shown(name, value)) if text is None else (c.DECIMAL, text)
+
+
+def _with_digits(name: str, value: FluentNumber) -> tuple[int, str]:
+    """A number with the least number of digits after the point that its options say, which chooses variants too."""
+    kind, text = _number(name, value) or (c.TEXT, str(value))
+    least = min(value.options.minimumFractionDigits or 0, 18)
+    digits = len(text.partition(".")[2])
+    if kind == c.TEXT or digits >= least:
+        return kind, text
+    return c.DECIMAL, text + ("" if digits else ".") + "0" * (least - digits)
 
 
 def _shown(name: str, value: object) -> str:
@@ -108,10 +126,17 @@ def _text(name: str, value: str) -> tuple[int, str]:
     return c.DECIMAL, value
 
 
-def kind_and_text(name: str, value: object, formatter: Formatter) -> tuple[int, str]:
-    """The kind of a value and its text. The formatter makes a value of what is neither a text nor a number."""
+def kind_and_text(name: str, value: object, formatter: Formatter, options_count: bool = True) -> tuple[int, str]:
+    """The kind of a value and its text. The formatter makes a value of what is neither a text nor a number.
+
+    Raises `NeedsShowing` for a number with options, if they count.
+    """
     if isinstance(value, str):
         return _text(name, value)
+    if isinstance(value, FluentNumber) and value.options != NumberFormatOptions():
+        if options_count:
+            raise NeedsShowing
+        return _with_digits(name, value)
     found = _number(name, value)
     if found is not None:
         return found
@@ -125,11 +150,11 @@ def kind_and_text(name: str, value: object, formatter: Formatter) -> tuple[int, 
     return found
 
 
-def _argument(name: str, value: object, formatter: Formatter) -> c.FluentArgument:
+def _argument(name: str, value: object, formatter: Formatter, options_count: bool) -> c.FluentArgument:
     key = encoded(name, "the name of an argument", name)
     if type(value) is int and -(2**63) <= value < 2**63:
         return c.FluentArgument(key, len(key), b"", 0, value, 0, c.INTEGER)
-    kind, text = (c.TEXT, value) if type(value) is str else kind_and_text(name, value, formatter)
+    kind, text = (c.TEXT, value) if type(value) is str else kind_and_text(name, value, formatter, options_count)
     data = encoded(text, "the argument", name)
     return c.FluentArgument(key, len(key), data, len(data), 0, 0, kind)
 
@@ -138,8 +163,11 @@ def _argument(name: str, value: object, formatter: Formatter) -> c.FluentArgumen
 NO_ARGUMENTS = c.arguments([])
 
 
-def arguments_of(arguments: Mapping[str, object], formatter: Formatter) -> c.Arguments:
-    """Arguments by their names, as the library takes them."""
+def arguments_of(arguments: Mapping[str, object], formatter: Formatter, options_count: bool = True) -> c.Arguments:
+    """Arguments by their names, as the library takes them.
+
+    Raises `NeedsShowing` for a number with options, if they count.
+    """
     if not arguments:
         return NO_ARGUMENTS
-    return c.arguments([_argument(name, value, formatter) for name, value in arguments.items()])
+    return c.arguments([_argument(name, value, formatter, options_count) for name, value in arguments.items()])

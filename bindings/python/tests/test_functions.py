@@ -4,6 +4,7 @@ import tempfile
 import threading
 import unittest
 import warnings
+from datetime import datetime, timedelta
 from decimal import Decimal
 from pathlib import Path
 
@@ -134,7 +135,7 @@ class FunctionsTest(unittest.TestCase):
                 asked = [bundle, Localization({"de": "", "en": source}, isolating=False, functions={"F": function})]
                 for texts in asked:
                     text, (error, missing) = texts.format("a")[:2]
-                    self.assertEqual((text, missing.kind), ("before F() after {$gone}", "variable"))
+                    self.assertEqual((text, missing.kind), ("before {F()} after {$gone}", "variable"))
                     self.assertRegex(str(error), f"^{told}$")
                     self.assertEqual((error.kind, error.id, error.attribute), ("raised", "F", None))
                     self.assertIsInstance(error, FluentError)
@@ -142,7 +143,7 @@ class FunctionsTest(unittest.TestCase):
         with Bundle(source, isolating=False, functions={"F": lambda x: raises(ValueError(x))}) as bundle:
             self.assertEqual(bundle.format("b").text, "other")
             text, errors = bundle.format("b", "c")
-            self.assertEqual((text, [str(error) for error in errors]), ("F()", ["F() raised ValueError: 3", "F() raised ValueError: None"]))
+            self.assertEqual((text, [str(error) for error in errors]), ("{F()}", ["F() raised ValueError: 3", "F() raised ValueError: None"]))
             # The exception says where it was raised.
             self.assertEqual(errors[0].__cause__.__traceback__.tb_next.tb_next.tb_next.tb_frame.f_code.co_name, "raises")
 
@@ -168,14 +169,14 @@ class FunctionsTest(unittest.TestCase):
 
         with Bundle("a = { ASK(1) } { ASK(2) }\n", isolating=False, functions={"ASK": ask}) as bundle:
             text, errors = bundle.format("a")
-            self.assertEqual(text, "ASK() ASK()")
+            self.assertEqual(text, "{ASK()} {ASK()}")
             self.assertEqual([type(error.__cause__) for error in errors], [RecursionError] * 2)
             self.assertLess(len(asked), 5_000)
 
     def test_names_that_no_message_calls(self):
-        for name in ["NUMBER", "f", "", "lower case", "_F", "1F", "F.G", "É", "F\n"]:
+        for name in ["f", "", "lower case", "_F", "1F", "F.G", "É", "F\n"]:
             for make in [Bundle, lambda source, functions: Localization({"en": source}, functions=functions)]:
-                with self.assertRaisesRegex(ValueError, "NUMBER comes with the library" if name == "NUMBER" else "no message can call"):
+                with self.assertRaisesRegex(ValueError, "no message can call"):
                     make("a = b\n", functions={name: repr})
         with Bundle("a = { F-1_X() }\n", isolating=False, functions={"F-1_X": lambda: "x", "N": lambda: "n"}) as bundle:
             self.assertEqual(bundle.format("a"), ("x", []))
@@ -184,6 +185,67 @@ class FunctionsTest(unittest.TestCase):
                 make(SOURCE, functions={"SHOW": "show"})
             with self.assertRaisesRegex(TypeError, "the name of a function isn't a text: int"):
                 make(SOURCE, functions={1: repr})
+
+    def test_number_of_the_program(self):
+        source = """a = { NUMBER($n) ->
+    [one] one { NUMBER($n, minimumFractionDigits: 1) } "{ SHOW(NUMBER($n)) }
+   *[other] { NUMBER( $n ) }
+}
+"""
+        asked = []
+
+        def number(value, **options):
+            asked.append(value)
+            return fluent_number(value, **options)
+
+        with Bundle(source + "b = {\n", locale="de", isolating=False, functions={"NUMBER": number, "SHOW": repr}) as bundle:
+            self.assertEqual([error.line for error in bundle.errors], [6])
+            self.assertEqual(bundle.format("a", n=1).text, "one 1,0 \"1")
+            asked.clear()
+            self.assertEqual(bundle.format("a", n=1234.5), ("1.234,5", []))
+            self.assertEqual(asked, [Decimal("1234.5")] * 2)
+            text, errors = bundle.format("a", n="x")
+            self.assertEqual((text, [type(error.__cause__) for error in errors]), ("{NUMBER()}", [TypeError] * 2))
+
+    def test_numbers_with_options(self):
+        source = """a = { $n ->
+    [one] one { $n }
+   *[other] other { $n } { 5.0 } { "{ $n }" } { m }
+}
+m = { NUMBER($n, minimumFractionDigits: 1) } { $gone }
+"""
+        euros = fluent_number(1234.5, style="currency", currency="EUR", maximumFractionDigits=0)
+        for functions in [None, {"NUMBER": fluent_number}, {"F": repr}]:
+            with Bundle(source, locale="de", isolating=False, functions=functions) as bundle:
+                text, errors = bundle.format("a", n=euros)
+                self.assertEqual(text, "other 1.235\xa0€ 5,0 { $n } 1.235\xa0€ {$gone}")
+                self.assertEqual([str(error) for error in errors], ["Unknown variable: $gone"])
+                self.assertEqual(bundle.format("a", n=fluent_number(1, useGrouping=False)).text, "one 1")
+                self.assertEqual(bundle.format("a", n=fluent_number(0.25, style="percent"), gone="x").text[:11], "other 25\xa0% ")
+        self.assertEqual(fluent_number(5) + 1, 6)
+        self.assertIsInstance(fluent_number(5), int)
+
+    def test_functions_get_what_was_passed(self):
+        day = datetime(2026, 11, 28, 12, 30)
+        got = []
+
+        def show(value, **_):
+            got.append(value)
+            return f"{value:%d.%m.}" if isinstance(value, datetime) else value
+
+        price = fluent_number(2, currency="EUR")
+        with Bundle(SOURCE, isolating=False, functions={"DATETIME": show, "SHOW": show}) as bundle:
+            self.assertEqual(bundle.format("date", day=day).text, "28.11.")
+            self.assertEqual(bundle.format("gone", gone=price).text, "2")
+            self.assertEqual(bundle.format("gone", gone="2").text, "2")
+        self.assertIs(got[0], day)
+        self.assertIs(got[1], price)
+        self.assertEqual(got[-1], "2")
+        # What a function returns is passed on, too.
+        source = "a = { SHOW(NEXT($day)) }\n"
+        functions = {"NEXT": lambda day: day + timedelta(1), "SHOW": show}
+        with Bundle(source, isolating=False, functions=functions) as bundle:
+            self.assertEqual(bundle.format("a", day=day).text, "29.11.")
 
     def test_languages(self):
         sources = {"de": "day = { DAY($n) }\n", "en": "day = the { DAY($n) }\nother = { DAY(2) }\n", "tt": "third = { DAY(3) }\n"}
@@ -221,20 +283,20 @@ class FunctionsTest(unittest.TestCase):
         text, errors = bundle.format_pattern(bundle.get_message("twice").value, {"n": 2})
         self.assertEqual((text, errors), ("3.50, 3.50 and 5", []))
         text, errors = bundle.format_pattern(bundle.get_message("gone").value)
-        self.assertEqual(text, "SHOW()")
+        self.assertEqual(text, "{SHOW()}")
         self.assertEqual([type(error) for error in errors], [ZeroDivisionError, FluentReferenceError])
         self.assertEqual(bundle.format_pattern(bundle.get_message("plain").value, {"n": 1}), ("Plain 1", []))
 
-    def test_runtime_has_the_number_of_the_library(self):
+    def test_runtime_has_the_number_of_the_program(self):
         def text(functions):
             bundle = FluentBundle(["en"], functions=functions, use_isolating=False)
             bundle.add_resource(FluentResource("a = { NUMBER($n, minimumFractionDigits: 1) }\n"))
             return bundle.format_pattern(bundle.get_message("a").value, {"n": 1234})[0]
 
-        for name, told in [("NUMBER", "NUMBER comes with the library"), ("f", "no message can call the function 'f'")]:
-            with self.assertWarnsRegex(FluentWarning, told) as warned:
-                self.assertEqual(text({name: lambda n, **_: "mine", "OTHER": repr}), "1,234.0")
-            self.assertEqual(warned.filename, __file__)
+        self.assertEqual(text({"NUMBER": lambda n, **options: f"{n} {options}"}), "1234 {'minimumFractionDigits': 1}")
+        with self.assertWarnsRegex(FluentWarning, "no message can call the function 'f'") as warned:
+            self.assertEqual(text({"f": lambda n, **_: "mine", "OTHER": repr}), "1,234.0")
+        self.assertEqual(warned.filename, __file__)
         with warnings.catch_warnings():
             warnings.simplefilter("error")
             self.assertEqual(text({"NUMBER": fluent_number}), "1,234.0")

@@ -142,7 +142,7 @@ class Texts(unittest.TestCase):
 
     def test_numbers(self):
         sources = {locale: f"{locale} = {{ $n }}\n" for locale in ("de", "io", "tt", "en")}
-        for numbers, shown in [(True, ["1.234,5", "1234.5", "1234.5", "1,234.5"]), (False, ["1234.5"] * 4)]:
+        for numbers, shown in [(True, ["1.234,5", "1234.5", "1\xa0234,5", "1,234.5"]), (False, ["1234.5"] * 4)]:
             texts = Localization(sources, numbers=numbers, isolating=False)
             self.assertEqual([texts.format(locale, n=1234.5).text for locale in sources], shown)
 
@@ -176,8 +176,6 @@ class Runtime(unittest.TestCase):
         self.assertEqual(bundle.format_pattern(bundle.get_message("foo").value, {"message_id": 1, "id": 2}), ("Other", []))
 
     def test_what_is_not_there(self):
-        with self.assertRaisesRegex(NotImplementedError, "currency"):
-            fluent_number(1, currency="EUR")
         with self.assertRaisesRegex(NotImplementedError, "DATETIME"):
             fluent_date(None)
         with self.assertRaises(TypeError):

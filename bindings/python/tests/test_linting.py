@@ -113,7 +113,7 @@ class LintTest(unittest.TestCase):
 
     def test_what_is_refused(self):
         with self.assertRaises(UnknownLocaleError):
-            lint({}, locale="plx")
+            lint({}, locale="no tag")
         with self.assertRaisesRegex(ValueError, "'x.ftl'"):
             lint({"x.ftl": "\ud800"})
         with self.assertRaises(ValueError):

@@ -409,7 +409,7 @@ class LookedAtTest(unittest.TestCase):
                 (["--port", "99999"], "port"),
                 (["--port", str(taken)], f"port {taken} is in use: name another one, or --port 0"),
                 ([made + "/empty"], "there is no .ftl file"),
-                (["--locale", "xx"], "no plural rules"),
+                (["--locale", "x"], "no language tag"),
             ]:
                 ran = subprocess.run(
                     [sys.executable, "-m", "kozhvadi.playground", *words],

@@ -1,21 +1,28 @@
 //! Bundles of resources.
 
 use crate::args::{FluentArgs, NONE};
-use crate::call::Functions;
+use crate::call::{Answering, Functions};
+use crate::custom::{Customs, Transform};
 use crate::errors::{EntryKind, FluentError};
 use crate::ids::{ById, Name};
 use crate::kept::{Kept, Refusal, Settings};
 use crate::listing::Entry;
+use crate::memoizer::IntlLangMemoizer;
 use crate::message::{FluentMessage, Message, Pattern};
+use crate::number::FluentNumber;
 use crate::resolver::{ReferenceKind, ResolverError};
 use crate::resource::FluentResource;
+use crate::rewriting::{rewritten, Names};
 use crate::text::{ShortText, Text};
+use crate::unic_langid::LanguageIdentifier;
 use crate::value::FluentValue;
 use std::borrow::{Borrow, Cow};
+use std::cell::RefCell;
 use std::collections::{hash_map, HashMap};
+use std::error::Error;
 use std::fmt;
 use std::sync::atomic::{AtomicU64, Ordering};
-use std::sync::OnceLock;
+use std::sync::{Mutex, OnceLock, PoisonError};
 
 /// A bundle of resources, by which their messages are formatted.
 ///
@@ -23,13 +30,19 @@ use std::sync::OnceLock;
 ///
 /// It is `Send` and `Sync`: the bundle that the library keeps is under a lock, which an answer holds for about a
 /// microsecond. So threads can share one, and threads that do nothing but format are faster with a bundle each.
-pub struct FluentBundle<R = FluentResource> {
-    /// The locales that [`FluentBundle::new`] was given, as texts. Plural rules and numbers stay those that it chose.
-    pub locales: Vec<String>,
-    /// The first of the locales that has plural rules, or the empty one, whose rules are those of English.
+///
+/// The second parameter is a marker: `fluent-bundle` has two kinds of bundles, and here both are one.
+pub struct FluentBundle<R = FluentResource, M = IntlLangMemoizer> {
+    /// The locales that [`FluentBundle::new`] was given. Plural rules and numbers stay those that it chose.
+    pub locales: Vec<LanguageIdentifier>,
+    /// The first of the locales that is a tag, or the empty one, whose rules are those of English.
     rules: String,
     isolating: bool,
     plain_numbers: bool,
+    stack: usize,
+    intls: M,
+    formatter: Option<Formatter<M>>,
+    transform: Option<Transform>,
     resources: Vec<Added<R>>,
     /// The entry of each id that counts.
     entries: HashMap<Name, Held, ById>,
@@ -39,7 +52,32 @@ pub struct FluentBundle<R = FluentResource> {
     /// A number that no other bundle of the process has.
     number: u64,
     kept: OnceLock<Kept>,
+    /// The same with sources in which each value is shown by a call.
+    showing: OnceLock<Kept>,
+    /// What shows numbers with options, by these options.
+    numbers: Mutex<HashMap<String, Kept>>,
 }
+
+/// A locale is no tag of a language.
+#[derive(Clone, Debug, PartialEq, Eq)]
+pub struct UnknownLocale(pub String);
+
+impl fmt::Display for UnknownLocale {
+    fn fmt(&self, f: &mut fmt::Formatter<'_>) -> fmt::Result {
+        write!(f, "the locale `{}` is no tag of a language", self.0)
+    }
+}
+
+impl Error for UnknownLocale {}
+
+/// Whether the library takes a locale, which the empty one isn't here.
+fn is_tag(locale: &str) -> bool {
+    let plain = Settings { isolating: true, last_counts: false, plain_numbers: true, stack: 0 };
+    !locale.is_empty() && Kept::of(&[], locale, plain, &[]).is_some()
+}
+
+/// What shows values in a way of the program's own.
+type Formatter<M> = fn(&FluentValue<'_>, &M) -> Option<String>;
 
 /// A resource, and whether its entries count in place of those that were there.
 struct Added<R> {
@@ -50,7 +88,10 @@ struct Added<R> {
 /// What is held under an id.
 enum Held {
     Message(Message),
-    Other,
+    /// The function `NUMBER` of the library.
+    Builtin,
+    Function,
+    Term,
 }
 
 impl Held {
@@ -58,31 +99,48 @@ impl Held {
     fn of(entry: &Entry<'_>, id: &Name, bundle: u64) -> Held {
         match entry.kind {
             EntryKind::Message => Held::Message(Message::of(entry, id, bundle)),
-            EntryKind::Term | EntryKind::Function => Held::Other,
+            EntryKind::Term | EntryKind::Function => Held::Term,
         }
     }
 }
 
-impl<R: Borrow<FluentResource>> FluentBundle<R> {
-    /// A bundle without resources, for the first of these locales that has plural rules. It writes numbers as that one
-    /// does. If none has, the rules are those of English, and numbers are written plainly.
+impl<R: Borrow<FluentResource>> FluentBundle<R, IntlLangMemoizer> {
+    /// A bundle without resources, for the first of these locales that is a tag of a language. It writes numbers as that
+    /// one does. If none is, the rules are those of English, and numbers are written plainly.
     pub fn new<L: fmt::Display>(locales: Vec<L>) -> Self {
         static BUNDLES: AtomicU64 = AtomicU64::new(0);
-        let locales: Vec<String> = locales.iter().map(L::to_string).collect();
-        let plain = Settings { isolating: true, last_counts: false, plain_numbers: true };
-        let has_rules = |locale: &&String| Kept::of(&[], locale, plain, &[]).is_some();
-        let rules = locales.iter().filter(|locale| !locale.is_empty()).find(has_rules).cloned().unwrap_or_default();
+        let tags: Vec<String> = locales.iter().map(L::to_string).collect();
+        let rules = tags.iter().find(|locale| is_tag(locale)).cloned().unwrap_or_default();
         FluentBundle {
-            locales,
+            locales: tags.into_iter().map(LanguageIdentifier::of).collect(),
             rules,
             isolating: true,
             plain_numbers: false,
+            stack: 0,
+            intls: *IntlLangMemoizer::marker(),
+            formatter: None,
+            transform: None,
             resources: Vec::new(),
-            entries: HashMap::from_iter([(Name::from("NUMBER"), Held::Other)]),
+            entries: HashMap::from_iter([(Name::from("NUMBER"), Held::Builtin)]),
             ids: Vec::new(),
             functions: Functions::default(),
             number: BUNDLES.fetch_add(1, Ordering::Relaxed),
             kept: OnceLock::new(),
+            showing: OnceLock::new(),
+            numbers: Mutex::default(),
+        }
+    }
+
+    /// The same as [`FluentBundle::new`] if each locale is a tag of a language.
+    ///
+    /// A language without plural rules, such as Occitan, `oc`, has those of the root: every number is `other`.
+    ///
+    /// # Errors
+    /// [`UnknownLocale`] with the first locale that is no tag.
+    pub fn try_new<L: fmt::Display>(locales: Vec<L>) -> Result<Self, UnknownLocale> {
+        match locales.iter().map(L::to_string).find(|locale| !is_tag(locale)) {
+            Some(locale) => Err(UnknownLocale(locale)),
+            None => Ok(FluentBundle::new(locales)),
         }
     }
 
@@ -90,7 +148,9 @@ impl<R: Borrow<FluentResource>> FluentBundle<R> {
     pub fn new_concurrent<L: fmt::Display>(locales: Vec<L>) -> Self {
         FluentBundle::new(locales)
     }
+}
 
+impl<R: Borrow<FluentResource>, M> FluentBundle<R, M> {
     /// Adds a resource. Of an id that is there the old entry stays.
     ///
     /// # Errors
@@ -135,9 +195,9 @@ impl<R: Borrow<FluentResource>> FluentBundle<R> {
 
     /// Adds a function that messages call, such as `{ PLATFORM() }`.
     ///
-    /// It gets copies of its arguments: texts, numbers, which keep the digits after the point as their one option, and
-    /// [`FluentValue::Error`] for what has no value. It is called once for each different call that an answer meets, so it
-    /// has to give the same for the same arguments. It may ask the bundle.
+    /// It gets copies of its arguments: texts; numbers, which keep the digits after the point as their one option; values
+    /// of the program's own; and [`FluentValue::Error`] for what has no value. It is called once for each different call
+    /// that an answer meets, so it has to give the same for the same arguments. It may ask the bundle.
     ///
     /// ```
     /// # use kozhvadi::{FluentBundle, FluentResource, FluentValue};
@@ -149,30 +209,131 @@ impl<R: Borrow<FluentResource>> FluentBundle<R> {
     /// assert_eq!(bundle.format_pattern(pattern, None, &mut vec![]), "On linux");
     /// ```
     ///
-    /// For no value it returns [`FluentValue::Error`] or [`FluentValue::None`]: then the call is shown as `PLATFORM()`. A
-    /// panic of the function goes through the call that asked for the text, and the bundle can be asked again.
+    /// If it returns [`FluentValue::None`], the call is shown as nothing, and if it returns [`FluentValue::Error`], as
+    /// `PLATFORM()`: a function of [`FluentBundle::add_fallible_function`] says why. A panic of the function goes through
+    /// the call that asked for the text, and the bundle can be asked again.
+    ///
+    /// A `NUMBER` of the program takes the place of the one that each bundle has, which writes numbers as the locale does
+    /// by all its options. So the usual one, which merges the options, can be added or left out:
+    ///
+    /// ```
+    /// # use kozhvadi::{FluentBundle, FluentResource, FluentValue};
+    /// let mut bundle = FluentBundle::new(vec!["en"]);
+    /// let source = r#"a = { NUMBER(0.5, style: "percent") }"#.to_string();
+    /// bundle.add_resource(FluentResource::try_new(source).unwrap()).unwrap();
+    /// bundle
+    ///     .add_function("NUMBER", |positional, named| match positional.first() {
+    ///         Some(FluentValue::Number(number)) => {
+    ///             let mut number = number.clone();
+    ///             number.options.merge(named);
+    ///             FluentValue::Number(number)
+    ///         }
+    ///         _ => FluentValue::Error,
+    ///     })
+    ///     .unwrap();
+    /// let pattern = bundle.get_message("a").and_then(|message| message.value()).unwrap();
+    /// assert_eq!(bundle.format_pattern(pattern, None, &mut vec![]), "50%");
+    /// ```
     ///
     /// # Errors
-    /// [`FluentError::Overriding`] if the id was there; the function is dropped. `NUMBER` is in each bundle, so leave out
-    /// what would add it, and add a function that writes numbers in another way under another name:
-    ///
-    /// ```
-    /// # use kozhvadi::{EntryKind, FluentBundle, FluentError, FluentResource, FluentValue};
-    /// let mut bundle: FluentBundle = FluentBundle::new(vec!["en"]);
-    /// let overriding = FluentError::Overriding { kind: EntryKind::Function, id: "NUMBER".to_string() };
-    /// assert_eq!(bundle.add_function("NUMBER", |_, _| FluentValue::None), Err(overriding));
-    /// ```
+    /// [`FluentError::Overriding`] if the id was there; the function is dropped.
     pub fn add_function<F>(&mut self, id: &str, function: F) -> Result<(), FluentError>
     where
         F: for<'a> Fn(&[FluentValue<'a>], &FluentArgs<'_>) -> FluentValue<'a> + Send + Sync + 'static,
     {
-        if self.entries.contains_key(id) {
+        self.add_fallible_function(id, move |positional, named| Ok(function(positional, named)))
+    }
+
+    /// Adds a function that may report an error. Then the call is shown as `{PLATFORM()}`, and the answer has the error
+    /// [`ResolverError::Function`] with the text, before the others.
+    ///
+    /// Else it is as [`FluentBundle::add_function`] says.
+    ///
+    /// ```
+    /// # use kozhvadi::{FluentBundle, FluentResource, FluentValue};
+    /// let mut bundle = FluentBundle::new(vec!["en"]);
+    /// bundle.add_resource(FluentResource::try_new("a = On { PLATFORM(1) }".to_string()).unwrap()).unwrap();
+    /// bundle
+    ///     .add_fallible_function("PLATFORM", |given, _| match given {
+    ///         [] => Ok(FluentValue::from("linux")),
+    ///         _ => Err("there are arguments".to_string()),
+    ///     })
+    ///     .unwrap();
+    /// # bundle.set_use_isolating(false);
+    /// let pattern = bundle.get_message("a").and_then(|message| message.value()).unwrap();
+    /// let mut errors = vec![];
+    /// assert_eq!(bundle.format_pattern(pattern, None, &mut errors), "On {PLATFORM()}");
+    /// assert_eq!(errors[0].to_string(), "Resolver error: PLATFORM(): there are arguments");
+    /// ```
+    ///
+    /// # Errors
+    /// [`FluentError::Overriding`] if the id was there; the function is dropped.
+    pub fn add_fallible_function<F>(&mut self, id: &str, function: F) -> Result<(), FluentError>
+    where
+        F: for<'a> Fn(&[FluentValue<'a>], &FluentArgs<'_>) -> Result<FluentValue<'a>, String> + Send + Sync + 'static,
+    {
+        let is_builtin = matches!(self.entries.get(id), Some(Held::Builtin));
+        if self.entries.contains_key(id) && !is_builtin {
             return Err(FluentError::Overriding { kind: EntryKind::Function, id: id.to_owned() });
         }
         self.forget();
-        self.entries.insert(Name::from(id), Held::Other);
+        self.entries.insert(Name::from(id), Held::Function);
         self.functions.add(id, Box::new(function));
         Ok(())
+    }
+
+    /// Sets what shows values in a way of the program's own: a value for which it gives no text is shown as without it.
+    ///
+    /// It is asked for numbers, texts and values of the program's own that a message shows, also for what functions give
+    /// and for numbers that are written in the message. The value itself chooses variants, as without it.
+    ///
+    /// ```
+    /// # use kozhvadi::{fluent_args, FluentBundle, FluentResource, FluentValue};
+    /// let mut bundle = FluentBundle::new(vec!["en"]);
+    /// bundle.add_resource(FluentResource::try_new("a = { $n } and { 5.0 }".to_string()).unwrap()).unwrap();
+    /// # bundle.set_use_isolating(false);
+    /// bundle.set_formatter(Some(|value, _| match value {
+    ///     FluentValue::Number(number) => Some(format!("<{}>", number.as_string())),
+    ///     _ => None,
+    /// }));
+    /// let pattern = bundle.get_message("a").and_then(|message| message.value()).unwrap();
+    /// let text = bundle.format_pattern(pattern, Some(&fluent_args!["n" => 3]), &mut vec![]);
+    /// assert_eq!(text, "<3> and <5.0>");
+    /// ```
+    pub fn set_formatter(&mut self, formatter: Option<fn(&FluentValue<'_>, &M) -> Option<String>>) {
+        self.forget();
+        self.formatter = formatter;
+    }
+
+    /// Sets what changes the texts of messages, as a program does to try how it looks in other languages.
+    ///
+    /// It gets the texts of the sources line by line, without the values in them. A text in quotes, such as `{ "x" }`, is
+    /// changed as the text around it; what is shown for what isn't there is, too, unless it is a variable.
+    ///
+    /// ```
+    /// # use kozhvadi::{fluent_args, FluentBundle, FluentResource};
+    /// let mut bundle = FluentBundle::new(vec!["en"]);
+    /// bundle.add_resource(FluentResource::try_new("a = Hello, { $name }!".to_string()).unwrap()).unwrap();
+    /// # bundle.set_use_isolating(false);
+    /// bundle.set_transform(Some(|text| text.to_uppercase().into()));
+    /// let pattern = bundle.get_message("a").and_then(|message| message.value()).unwrap();
+    /// let text = bundle.format_pattern(pattern, Some(&fluent_args!["name" => "Jane"]), &mut vec![]);
+    /// assert_eq!(text, "HELLO, Jane!");
+    /// ```
+    pub fn set_transform(&mut self, transform: Option<fn(&str) -> Cow<'_, str>>) {
+        self.forget();
+        self.transform = transform;
+    }
+
+    /// How many bytes of the machine's stack an answer may take, and a message or a term when it is read: at first 1.5 MB
+    /// (1,572,864), which a thread with 2 MB has. A thread that asks needs 400 KB beside it.
+    ///
+    /// An answer that takes more is an error, [`ResolverError::OutOfMemory`]. Read the resources by
+    /// [`FluentResource::try_new_within`] with a budget that is no larger: of a resource that nests deeper the bundle can't
+    /// be asked, and the program ends as if memory had run out.
+    pub fn set_stack(&mut self, stack: usize) {
+        self.forget();
+        self.stack = stack;
     }
 
     /// Whether the values of placeables are between marks that keep their direction from that of the text around them,
@@ -219,7 +380,7 @@ impl<R: Borrow<FluentResource>> FluentBundle<R> {
     /// ```
     pub fn variables(&self, id: &str) -> Option<impl Iterator<Item = String>> {
         self.message(id)?;
-        let names = self.kept().variables(id).unwrap_or_else(|| out_of_memory());
+        let names = self.kept(false).variables(id).unwrap_or_else(|| out_of_memory());
         Some(names.into_iter())
     }
 
@@ -238,10 +399,10 @@ impl<R: Borrow<FluentResource>> FluentBundle<R> {
     ) -> Cow<'bundle, str> {
         match self.fixed_text(pattern) {
             Some(text) => Cow::Borrowed(text),
-            None => Cow::Owned(
-                self.formatted(pattern, args, errors, |text| text.as_str().to_owned())
-                    .unwrap_or_else(|| reference(pattern)),
-            ),
+            None => Cow::Owned(match self.formatted(pattern, args, errors, |text| text.as_str().to_owned()) {
+                Some(Formatted::Taken(text) | Formatted::Shown(text)) => text,
+                None => reference(pattern),
+            }),
         }
     }
 
@@ -263,12 +424,13 @@ impl<R: Borrow<FluentResource>> FluentBundle<R> {
         }
         let mut copy = ShortText::none();
         match self.formatted(pattern, args, errors, |text| copy.take(text)) {
-            Some(None) => w.write_str(copy.as_str()),
-            Some(Some(text)) => {
+            Some(Formatted::Taken(None)) => w.write_str(copy.as_str()),
+            Some(Formatted::Taken(Some(text))) => {
                 let written = w.write_str(text.as_str());
-                self.kept().give_back(text);
+                self.kept(self.shows(args)).give_back(text);
                 written
             }
+            Some(Formatted::Shown(text)) => w.write_str(&text),
             None => w.write_str(&reference(pattern)),
         }
     }
@@ -276,7 +438,7 @@ impl<R: Borrow<FluentResource>> FluentBundle<R> {
     fn message(&self, id: &str) -> Option<&Message> {
         match self.entries.get(id)? {
             Held::Message(message) => Some(message),
-            Held::Other => None,
+            Held::Builtin | Held::Function | Held::Term => None,
         }
     }
 
@@ -295,9 +457,12 @@ impl<R: Borrow<FluentResource>> FluentBundle<R> {
     fn fixed_text<'p>(&'p self, pattern: &'p Pattern) -> Option<&'p str> {
         let own = self.own(pattern)?;
         own.fixed(|| {
-            let fixed = |text: &mut Text, errors: &str| errors.is_empty().then(|| text.as_str().into());
+            let shown = |text: &str| Customs::default().shown(text, self.transform).map(String::into_boxed_str);
+            let fixed = |text: &mut Text, errors: &str| {
+                errors.is_empty().then(|| shown(text.as_str()).unwrap_or_else(|| text.as_str().into()))
+            };
             // A text that calls a function isn't kept.
-            self.kept().format(own, &NONE, |_| None, fixed).ok()?
+            self.kept(self.shows(None)).format(own, NONE, |_| None, fixed).ok()?
         })
     }
 
@@ -308,13 +473,34 @@ impl<R: Borrow<FluentResource>> FluentBundle<R> {
         args: Option<&FluentArgs<'_>>,
         errors: &mut Vec<FluentError>,
         took: impl FnOnce(&mut Text) -> T,
-    ) -> Option<T> {
-        let answer = |call: &str| Some(self.functions.answer(call));
-        let answered = self.kept().format(pattern, args.unwrap_or(&NONE), answer, |text, lines| {
+    ) -> Option<Formatted<T>> {
+        let (args, kept) = (args.unwrap_or(NONE), self.kept(self.shows(args)));
+        let mut customs = Customs::default();
+        let given = args.in_library(&mut customs);
+        let show = |value: &FluentValue<'_>| self.shown(value);
+        let functions = &self.functions;
+        // A function may ask the bundle, but not for this answer.
+        let answering = RefCell::new(Answering {
+            functions,
+            args,
+            show: &show,
+            is_marked: self.transform.is_some(),
+            customs,
+            errors: Vec::new(),
+        });
+        let answer = |call: &str| Some(answering.borrow_mut().answer(call));
+        let answered = kept.format(pattern, &given, answer, |text, lines| {
+            let mut answering = answering.borrow_mut();
+            if !answering.errors.is_empty() {
+                errors.extend(answering.errors.drain(..).map(FluentError::from));
+            }
             if !lines.is_empty() {
                 errors.extend(lines.split_terminator('\n').map(|line| ResolverError::of_line(line).into()));
             }
-            took(text)
+            match answering.customs.shown(text.as_str(), self.transform) {
+                Some(text) => Formatted::Shown(text),
+                None => Formatted::Taken(took(text)),
+            }
         });
         let error = match answered {
             Ok(taken) => return Some(taken),
@@ -328,9 +514,51 @@ impl<R: Borrow<FluentResource>> FluentBundle<R> {
         None
     }
 
-    /// The bundle that the library keeps, which is made if it isn't there.
-    fn kept(&self) -> &Kept {
-        self.kept.get_or_init(|| {
+    /// Whether values are shown by calls: if the program shows them, or a number has options that its digits don't say.
+    fn shows(&self, args: Option<&FluentArgs<'_>>) -> bool {
+        let are_all = self.formatter.is_some() || self.transform.is_some();
+        are_all || args.is_some_and(FluentArgs::have_more_options)
+    }
+
+    /// How a value is shown, if that isn't how the library shows it.
+    fn shown(&self, value: &FluentValue<'_>) -> Option<String> {
+        let text = self.formatter.and_then(|formatter| formatter(value, &self.intls));
+        text.or_else(|| match value {
+            FluentValue::Number(number) if self.transform.is_some() || number.has_more_options() => {
+                Some(self.number_shown(number))
+            }
+            FluentValue::Custom(value) => Some(value.as_string(IntlLangMemoizer::marker()).into_owned()),
+            _ => None,
+        })
+    }
+
+    /// A number as the library's `NUMBER` shows it by all its options.
+    fn number_shown(&self, number: &FluentNumber) -> String {
+        if number.is_text() {
+            return number.as_string().into_owned();
+        }
+        let options = number.options.as_arguments();
+        let mut numbers = self.numbers.lock().unwrap_or_else(PoisonError::into_inner);
+        let kept = numbers.entry(options).or_insert_with_key(|options| {
+            let source = format!("number = {{ NUMBER($number{options}) }}\n");
+            let settings = Settings { isolating: false, ..self.settings(false) };
+            Kept::of(&[&source], &self.rules, settings, &[]).unwrap_or_else(|| out_of_memory())
+        });
+        let pattern = Pattern::of_id("number");
+        let args = FluentArgs::from_iter([("number", number.without_options())]);
+        let text = kept.format(&pattern, &args, |_| None, |text, _| text.as_str().to_owned());
+        text.unwrap_or_else(|_| number.as_string().into_owned())
+    }
+
+    fn settings(&self, last_counts: bool) -> Settings {
+        Settings { isolating: self.isolating, last_counts, plain_numbers: self.plain_numbers, stack: self.stack }
+    }
+
+    /// The bundle that the library keeps, which is made if it isn't there: that in which values are shown by calls, or the
+    /// usual one.
+    fn kept(&self, shows: bool) -> &Kept {
+        let kept = if shows { &self.showing } else { &self.kept };
+        kept.get_or_init(|| {
             let last_counts = self.added(true).any(FluentResource::has_doubles)
                 && !self.added(false).any(FluentResource::has_doubles);
             let resources: Vec<&FluentResource> = if last_counts {
@@ -338,11 +566,23 @@ impl<R: Borrow<FluentResource>> FluentBundle<R> {
             } else {
                 self.added(true).rev().chain(self.added(false)).collect()
             };
-            let sources: Vec<&str> = resources.into_iter().map(FluentResource::readable).collect();
-            let settings = Settings { isolating: self.isolating, last_counts, plain_numbers: self.plain_numbers };
-            let functions = self.functions.names();
-            Kept::of(&sources, &self.rules, settings, &functions).unwrap_or_else(|| out_of_memory())
+            let sources: Vec<Cow<'_, str>> =
+                resources.into_iter().map(|resource| self.source(resource.readable(), shows)).collect();
+            let sources: Vec<&str> = sources.iter().map(AsRef::as_ref).collect();
+            let functions = self.functions.called(shows);
+            let functions: Vec<&str> = functions.iter().map(String::as_str).collect();
+            Kept::of(&sources, &self.rules, self.settings(last_counts), &functions).unwrap_or_else(|| out_of_memory())
         })
+    }
+
+    /// A source, as the library is given it.
+    fn source<'s>(&self, source: &'s str, shows: bool) -> Cow<'s, str> {
+        if self.functions.are_none() && !shows {
+            return Cow::Borrowed(source);
+        }
+        let is_own = |name: &str| matches!(self.entries.get(name), Some(Held::Function));
+        let has_number = matches!(self.entries.get("NUMBER"), Some(Held::Builtin));
+        Cow::Owned(rewritten(source, &Names { is_own: &is_own, shows, has_number }))
     }
 
     /// The resources that were added in one of the two ways.
@@ -360,7 +600,9 @@ impl<R: Borrow<FluentResource>> FluentBundle<R> {
 
     /// Forgets what the library was asked, before the bundle changes.
     fn forget(&mut self) {
-        if self.kept.take().is_none() {
+        let (kept, showing) = (self.kept.take(), self.showing.take());
+        self.numbers.get_mut().unwrap_or_else(PoisonError::into_inner).clear();
+        if kept.is_none() && showing.is_none() {
             return;
         }
         for held in self.entries.values_mut() {
@@ -369,6 +611,14 @@ impl<R: Borrow<FluentResource>> FluentBundle<R> {
             }
         }
     }
+}
+
+/// The text of a pattern.
+enum Formatted<T> {
+    /// What was made of the library's text.
+    Taken(T),
+    /// A text with values of the program's own.
+    Shown(String),
 }
 
 /// What is shown for a pattern that has no text.
@@ -384,7 +634,7 @@ fn out_of_memory() -> ! {
     std::alloc::handle_alloc_error(std::alloc::Layout::new::<Kept>())
 }
 
-impl<R: Borrow<FluentResource>> Default for FluentBundle<R> {
+impl<R: Borrow<FluentResource>> Default for FluentBundle<R, IntlLangMemoizer> {
     fn default() -> Self {
         FluentBundle::new(vec!["en"])
     }
@@ -405,16 +655,16 @@ mod tests {
         }
         let ids: Vec<&str> = bundle.messages().map(|(id, _)| id).collect();
         assert_eq!(ids, ["z", "a", "m"]);
-        assert_eq!(bundle.kept().messages(), ids);
+        assert_eq!(bundle.kept(false).messages(), ids);
         for (id, message) in bundle.messages() {
             let names: Vec<&str> = message.attributes().map(|attribute| attribute.id()).collect();
-            assert_eq!(bundle.kept().attributes(id), names);
+            assert_eq!(bundle.kept(false).attributes(id), names);
         }
         let over = FluentResource::try_new("n = N\nt = Message\n-z = Term\n".into()).expect("It is read.");
         bundle.add_resource_overriding(over);
         let mut ids: Vec<&str> = bundle.messages().map(|(id, _)| id).collect();
         assert_eq!(ids, ["t", "a", "m", "n"]);
-        let mut listed = bundle.kept().messages();
+        let mut listed = bundle.kept(false).messages();
         ids.sort();
         listed.sort();
         assert_eq!(listed, ids);

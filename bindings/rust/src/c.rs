@@ -14,6 +14,7 @@ pub const FLUENT_DECIMAL: u32 = 1;
 pub const FLUENT_INTEGER: u32 = 2;
 pub const FLUENT_UNSIGNED: u32 = 3;
 pub const FLUENT_NO_VALUE: u32 = 4;
+pub const FLUENT_FLOAT: u32 = 5;
 
 pub const FLUENT_FILTERING: u32 = 0;
 pub const FLUENT_MATCHING: u32 = 1;
@@ -150,6 +151,7 @@ extern "C" {
         text: *mut FluentText,
         errors: *mut FluentText,
     ) -> u32;
+    pub fn fluent_has_plural_rules(locale: *const u8, locale_len: usize) -> bool;
     pub fn fluent_negotiate(
         requested: *const FluentSource,
         requested_count: usize,

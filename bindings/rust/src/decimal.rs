@@ -50,6 +50,33 @@ impl Decimal {
         (self.fraction == 0).then(|| self.truncated())
     }
 
+    /// The integer that the number is, if it is one of these.
+    #[inline]
+    pub(crate) fn signed(self) -> Option<i64> {
+        let whole = i64::try_from(self.whole).ok().filter(|_| self.fraction == 0)?;
+        Some(if self.is_negative { -whole } else { whole })
+    }
+
+    /// The nearest float.
+    #[inline]
+    pub(crate) fn nearest(self) -> f64 {
+        let value = match self.fraction {
+            0 => self.whole as f64,
+            _ => return self.nearest_of_fraction(),
+        };
+        if self.is_negative {
+            -value
+        } else {
+            value
+        }
+    }
+
+    #[inline(never)]
+    fn nearest_of_fraction(self) -> f64 {
+        // Each decimal is the text of a float.
+        self.text(None).parse().unwrap_or(f64::NAN)
+    }
+
     /// The integer toward zero.
     pub(crate) fn truncated(self) -> i128 {
         let whole = i128::from(self.whole);

@@ -27,6 +27,9 @@ pub(crate) struct Settings {
     pub last_counts: bool,
     /// Whether numbers are written plainly, whatever the locale.
     pub plain_numbers: bool,
+    /// How many bytes of the machine's stack an answer may take, and a message or a term that is read; 0 for what suits a
+    /// thread with 2 MB.
+    pub stack: usize,
 }
 
 /// A bundle that the library keeps. It is freed when it is dropped.
@@ -49,7 +52,7 @@ struct Asked {
 unsafe impl Send for Asked {}
 
 impl Kept {
-    /// A bundle of copies of sources; or `None` if the locale has no plural rules or the library was refused memory.
+    /// A bundle of copies of sources; or `None` if the locale is no tag or the library was refused memory.
     ///
     /// Its messages may call functions of these names.
     pub(crate) fn of(sources: &[&str], locale: &str, settings: Settings, functions: &[&str]) -> Option<Kept> {
@@ -63,7 +66,7 @@ impl Kept {
             size: mem::size_of::<c::FluentBundleOptions>(),
             locale: locale.as_ptr(),
             locale_len: locale.len(),
-            stack: 0,
+            stack: settings.stack,
             isolating: settings.isolating,
             overriding: settings.last_counts,
             plain_numbers: settings.plain_numbers,
@@ -93,13 +96,13 @@ impl Kept {
         &self,
         pattern: &Pattern,
         args: &FluentArgs<'_>,
-        answer: impl Fn(&str) -> Option<FluentValue<'static>>,
+        mut answer: impl FnMut(&str) -> Option<FluentValue<'static>>,
         took: impl FnOnce(&mut Text, &str) -> T,
     ) -> Result<T, Refusal> {
         let mut answers = None;
         loop {
             let mut asked = self.asked();
-            let answered = asked.ask(pattern, args, answers.as_ref().unwrap_or(&NONE));
+            let answered = asked.ask(pattern, args, answers.as_ref().unwrap_or(NONE));
             match answered {
                 c::FLUENT_READ => {
                     let Asked { text, errors, .. } = &mut *asked;

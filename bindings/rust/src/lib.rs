@@ -34,9 +34,10 @@
 
 mod args;
 pub mod ast;
-mod bundle;
+pub mod bundle;
 mod c;
 mod call;
+mod custom;
 mod decimal;
 mod errors;
 mod ids;
@@ -46,6 +47,7 @@ mod languages;
 mod linting;
 mod listing;
 mod localization;
+pub mod memoizer;
 mod message;
 mod number;
 mod occurrences;
@@ -54,9 +56,11 @@ mod parser;
 mod report;
 pub mod resolver;
 mod resource;
+mod rewriting;
 mod text;
 mod tidying;
 mod tree;
+pub mod unic_langid;
 mod value;
 pub mod visit;
 
@@ -66,11 +70,11 @@ pub mod visit;
 struct Page;
 
 pub use args::FluentArgs;
-pub use bundle::FluentBundle;
+pub use bundle::UnknownLocale;
 pub use errors::{EntryKind, FluentError};
-pub use languages::{negotiate_languages, NegotiationStrategy};
+pub use languages::{accepted_languages, has_plural_rules, negotiate_languages, system_languages, NegotiationStrategy};
 pub use linting::{lint, FileCounts, Finding, LintError, LintOptions, Report, Severity};
-pub use localization::{L10nAttribute, L10nKey, L10nMessage, Localization, LocalizationError};
+pub use localization::{AsBundle, L10nAttribute, L10nKey, L10nMessage, Localization, LocalizationError};
 pub use message::{FluentAttribute, FluentMessage, Pattern};
 pub use number::FluentNumber;
 pub use occurrences::{occurrences, Occurrence, OutOfMemory, Symbol, SymbolKind};
@@ -80,14 +84,27 @@ pub use resource::FluentResource;
 pub use tidying::{tidy, TidyError};
 pub use value::FluentValue;
 
+/// A bundle with the usual marker.
+pub type FluentBundle<R = FluentResource> = bundle::FluentBundle<R, memoizer::IntlLangMemoizer>;
+
 /// Bundles that threads share: each bundle is one.
 pub mod concurrent {
-    pub use crate::bundle::FluentBundle;
+    pub use crate::FluentBundle;
+}
+
+/// The names of the crate `intl-memoizer`.
+pub mod intl_memoizer {
+    pub use crate::memoizer::IntlLangMemoizer;
+
+    /// Memoizers that threads share: each is one.
+    pub mod concurrent {
+        pub use crate::memoizer::IntlLangMemoizer;
+    }
 }
 
 /// Values, and how numbers are shown.
 pub mod types {
     pub use crate::number::{FluentNumber, ParseNumberError};
     pub use crate::options::{FluentNumberCurrencyDisplayStyle, FluentNumberOptions, FluentNumberStyle};
-    pub use crate::value::FluentValue;
+    pub use crate::value::{AnyEq, FluentType, FluentValue};
 }

@@ -102,7 +102,7 @@ pub struct LintOptions<'a> {
 /// Why there is no report.
 #[derive(Clone, Copy, Debug, PartialEq, Eq)]
 pub enum LintError {
-    /// The locale has no plural rules.
+    /// The locale is no tag of a language.
     UnknownLocale,
     /// Memory was refused, or a text nests too deep for 1.5 MB of the machine's stack.
     OutOfMemory,
@@ -111,7 +111,7 @@ pub enum LintError {
 impl fmt::Display for LintError {
     fn fmt(&self, f: &mut fmt::Formatter<'_>) -> fmt::Result {
         f.write_str(match self {
-            LintError::UnknownLocale => "the locale has no plural rules",
+            LintError::UnknownLocale => "the locale is no tag of a language",
             LintError::OutOfMemory => "a text nests too deep, or memory ran out",
         })
     }

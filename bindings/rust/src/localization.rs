@@ -8,6 +8,9 @@ use crate::resource::FluentResource;
 use std::borrow::{Borrow, Cow};
 use std::error::Error;
 use std::fmt;
+use std::marker::PhantomData;
+use std::rc::Rc;
+use std::sync::Arc;
 
 /// What goes wrong on the way along the languages.
 #[derive(Clone, Debug, PartialEq, Eq)]
@@ -76,7 +79,45 @@ pub struct L10nAttribute<'l> {
 /// What is asked for: the id of a message, and its arguments.
 pub type L10nKey<'l> = (&'l str, Option<FluentArgs<'l>>);
 
+/// A bundle, or what shares one: `FluentBundle<R>`, or a reference, an `Rc` or an `Arc` of it.
+pub trait AsBundle {
+    /// The resources of the bundle.
+    type Resource: Borrow<FluentResource>;
+    /// The second parameter of the bundle.
+    type Memoizer;
+
+    /// The bundle.
+    fn as_bundle(&self) -> &FluentBundle<Self::Resource, Self::Memoizer>;
+}
+
+impl<R: Borrow<FluentResource>, M> AsBundle for FluentBundle<R, M> {
+    type Resource = R;
+    type Memoizer = M;
+
+    fn as_bundle(&self) -> &FluentBundle<R, M> {
+        self
+    }
+}
+
+/// What points to a bundle is as the bundle.
+macro_rules! pointers {
+    ($($pointer:ty),*) => {$(
+        impl<B: AsBundle + ?Sized> AsBundle for $pointer {
+            type Resource = B::Resource;
+            type Memoizer = B::Memoizer;
+
+            fn as_bundle(&self) -> &FluentBundle<B::Resource, B::Memoizer> {
+                B::as_bundle(self)
+            }
+        }
+    )*};
+}
+
+pointers!(&B, Box<B>, Rc<B>, Arc<B>);
+
 /// Bundles in the order in which they are asked: the first one that has a message answers for it.
+///
+/// The bundles can be shared with others: two chains may end in the same English.
 ///
 /// ```
 /// use kozhvadi::{FluentBundle, FluentResource, Localization};
@@ -94,18 +135,29 @@ pub type L10nKey<'l> = (&'l str, Option<FluentArgs<'l>>);
 /// assert_eq!(errors[0].to_string(), "[de] There is no message bye");
 /// assert_eq!(texts.format_value("nothing", None, &mut errors), None);
 /// ```
-pub struct Localization<R = FluentResource> {
-    bundles: Vec<FluentBundle<R>>,
+///
+/// ```
+/// # use kozhvadi::{FluentBundle, FluentResource, Localization};
+/// use std::sync::Arc;
+/// # let bundle = |locale| Arc::new(FluentBundle::<FluentResource>::new(vec![locale]));
+/// let (de, fr, en) = (bundle("de"), bundle("fr"), bundle("en"));
+/// let german = Localization::new([de, Arc::clone(&en)]);
+/// let french = Localization::new([fr, en]);
+/// assert!(Arc::ptr_eq(&german.bundles()[1], &french.bundles()[1]));
+/// ```
+pub struct Localization<R = FluentResource, B = FluentBundle<R>> {
+    bundles: Vec<B>,
+    resources: PhantomData<fn() -> R>,
 }
 
-impl<R: Borrow<FluentResource>> Localization<R> {
+impl<R: Borrow<FluentResource>, B: AsBundle<Resource = R>> Localization<R, B> {
     /// A chain of bundles. The one at the front is asked first.
-    pub fn new(bundles: impl IntoIterator<Item = FluentBundle<R>>) -> Self {
-        Localization { bundles: bundles.into_iter().collect() }
+    pub fn new(bundles: impl IntoIterator<Item = B>) -> Self {
+        Localization { bundles: bundles.into_iter().collect(), resources: PhantomData }
     }
 
     /// The bundles.
-    pub fn bundles(&self) -> &[FluentBundle<R>] {
+    pub fn bundles(&self) -> &[B] {
         &self.bundles
     }
 
@@ -157,7 +209,7 @@ impl<R: Borrow<FluentResource>> Localization<R> {
         args: Option<&FluentArgs<'_>>,
         errors: &mut Vec<LocalizationError>,
     ) -> Option<L10nMessage<'l>> {
-        for bundle in &self.bundles {
+        for bundle in self.bundles.iter().map(B::as_bundle) {
             let Some(message) = bundle.get_message(id) else {
                 errors.push(LocalizationError::MissingMessage { id: id.to_owned(), locale: locale_of(bundle) });
                 continue;
@@ -186,7 +238,7 @@ impl<R: Borrow<FluentResource>> Localization<R> {
             true => LocalizationError::MissingValue { id: id.to_owned(), locale },
             false => LocalizationError::MissingMessage { id: id.to_owned(), locale },
         };
-        for bundle in &self.bundles {
+        for bundle in self.bundles.iter().map(B::as_bundle) {
             let message = bundle.get_message(id);
             has_message |= message.is_some();
             match message.as_ref().and_then(&find) {
@@ -199,13 +251,13 @@ impl<R: Borrow<FluentResource>> Localization<R> {
     }
 }
 
-fn locale_of<R>(bundle: &FluentBundle<R>) -> Option<String> {
-    bundle.locales.first().cloned()
+fn locale_of<R, M>(bundle: &FluentBundle<R, M>) -> Option<String> {
+    bundle.locales.first().map(ToString::to_string)
 }
 
 /// The text of a pattern of a bundle. What goes wrong is added to `errors`.
-fn format_in<'l, R: Borrow<FluentResource>>(
-    bundle: &'l FluentBundle<R>,
+fn format_in<'l, R: Borrow<FluentResource>, M>(
+    bundle: &'l FluentBundle<R, M>,
     id: &str,
     pattern: &'l Pattern,
     args: Option<&FluentArgs<'_>>,

@@ -1,7 +1,7 @@
 //! Numbers.
 
 use crate::decimal::{Decimal, DIGITS};
-use crate::options::FluentNumberOptions;
+use crate::options::{FluentNumberOptions, Written};
 use crate::value::FluentValue;
 use std::borrow::Cow;
 use std::error::Error;
@@ -17,16 +17,39 @@ enum Amount {
     Float(f64),
 }
 
-/// A number: an integer or a decimal, exactly, and how it is shown.
+/// A number, and how it is shown.
 ///
-/// A decimal has at most 18 digits after the point, and a whole part below 2^64. A float is rounded to that: the digits
-/// are those that Rust shows, so `1.0` is 1 and `0.1` is 0.1. A float that isn't a number, or is too large, is shown as
-/// Rust shows it, and chooses variants as a text.
-#[derive(Clone, Debug, PartialEq)]
+/// An integer and a decimal are kept exactly beside their nearest float: a decimal with at most 18 digits after the
+/// point, and a whole part below 2^64. A float is rounded to that: the digits are those that Rust shows, so `1.0` is 1
+/// and `0.1` is 0.1. A float that isn't a number, or is too large, is shown as Rust shows it, and chooses variants as a
+/// text.
+///
+/// ```
+/// use kozhvadi::types::{FluentNumber, FluentNumberOptions};
+///
+/// let options = FluentNumberOptions { minimum_fraction_digits: Some(2), ..Default::default() };
+/// let number = FluentNumber { value: 2.5, options };
+/// assert_eq!((number.value, number.as_string().as_ref()), (2.5, "2.50"));
+/// ```
+#[derive(Clone)]
 pub struct FluentNumber {
-    amount: Amount,
+    /// The nearest float. If you set it, the number is that float.
+    pub value: f64,
     /// How the number is shown.
     pub options: FluentNumberOptions,
+}
+
+/// Numbers are equal if they are as much, and are shown in the same way.
+impl PartialEq for FluentNumber {
+    fn eq(&self, other: &FluentNumber) -> bool {
+        self.amount() == other.amount() && self.options == other.options
+    }
+}
+
+impl fmt::Debug for FluentNumber {
+    fn fmt(&self, f: &mut fmt::Formatter<'_>) -> fmt::Result {
+        f.debug_struct("FluentNumber").field("amount", &self.amount()).field("options", &self.options).finish()
+    }
 }
 
 /// A text isn't the number that it was taken for.
@@ -45,55 +68,92 @@ impl Error for ParseNumberError {}
 pub(crate) enum Given {
     Signed(i64),
     Unsigned(u64),
+    /// A number as it is written.
     Decimal(String),
+    /// A number of no written digits.
+    Float(String),
     Text(String),
 }
 
 impl FluentNumber {
     /// A number of these options.
     pub fn new(value: f64, options: FluentNumberOptions) -> Self {
-        FluentNumber { options, ..FluentNumber::from(value) }
+        FluentNumber { value, options }
     }
 
+    /// The number of a decimal.
     #[inline]
-    fn of(amount: Amount) -> Self {
-        FluentNumber { amount, options: FluentNumberOptions::default() }
+    fn of(decimal: Decimal) -> Self {
+        let options = FluentNumberOptions { written: Written(Some(decimal)), ..FluentNumberOptions::default() };
+        FluentNumber { value: decimal.nearest(), options }
     }
 
-    /// The number of the text of a float, or the float if it is too large or none.
-    fn of_float(value: f64, text: &str) -> Self {
-        FluentNumber::of(Decimal::rounded(text).map_or(Amount::Float(value), Amount::Decimal))
+    /// The decimal that the number was made of, as long as it is that number.
+    #[inline]
+    fn written(&self) -> Option<Decimal> {
+        self.options.written.0.filter(|decimal| decimal.nearest() == self.value)
+    }
+
+    fn amount(&self) -> Amount {
+        let decimal = self.written().or_else(|| Decimal::rounded(&self.value.to_string()));
+        decimal.map_or(Amount::Float(self.value), Amount::Decimal)
     }
 
     /// The nearest float.
     pub fn value(&self) -> f64 {
-        match self.amount {
-            // Each decimal is the text of a float.
-            Amount::Decimal(decimal) => decimal.text(None).parse().unwrap_or(f64::NAN),
-            Amount::Float(value) => value,
-        }
+        self.value
     }
 
     /// The text, with the least number of digits after the point.
     pub fn as_string(&self) -> Cow<'static, str> {
-        Cow::Owned(match self.amount {
+        Cow::Owned(match self.amount() {
             Amount::Decimal(decimal) => decimal.text(self.options.minimum_fraction_digits),
             Amount::Float(value) => value.to_string(),
         })
     }
 
     /// The number, as it is passed to the library.
+    #[inline]
     pub(crate) fn given(&self) -> Given {
-        let decimal = match self.amount {
+        let (written, least) = (self.written(), self.options.minimum_fraction_digits);
+        match written.and_then(Decimal::signed) {
+            Some(integer) if least.is_none() => Given::Signed(integer),
+            _ => self.given_as(written, least),
+        }
+    }
+
+    /// What is given of a number that isn't the integer that it was made of.
+    #[inline(never)]
+    fn given_as(&self, written: Option<Decimal>, least: Option<usize>) -> Given {
+        let decimal = match self.amount() {
             Amount::Float(value) => return Given::Text(value.to_string()),
             Amount::Decimal(decimal) => decimal,
         };
-        let integer = if self.options.minimum_fraction_digits.is_none() { decimal.integer() } else { None };
+        let integer = if least.is_none() { decimal.integer() } else { None };
         match integer.map(|integer| (i64::try_from(integer), u64::try_from(integer))) {
             Some((Ok(integer), _)) => Given::Signed(integer),
             Some((_, Ok(integer))) => Given::Unsigned(integer),
-            _ => Given::Decimal(decimal.text(self.options.minimum_fraction_digits)),
+            _ if least.is_none() && written.is_none() => Given::Float(decimal.text(None)),
+            _ => Given::Decimal(decimal.text(least)),
         }
+    }
+
+    /// The number as it is passed to a call of `NUMBER` that has all its options.
+    pub(crate) fn without_options(&self) -> FluentNumber {
+        FluentNumber {
+            value: self.value,
+            options: FluentNumberOptions { written: self.options.written, ..Default::default() },
+        }
+    }
+
+    /// Whether the number is a text for the library, since it is too large or none.
+    pub(crate) fn is_text(&self) -> bool {
+        matches!(self.amount(), Amount::Float(_))
+    }
+
+    /// Whether there is an option but for the digits after the point.
+    pub(crate) fn has_more_options(&self) -> bool {
+        self.options.are_more()
     }
 }
 
@@ -103,7 +163,7 @@ impl FromStr for FluentNumber {
 
     fn from_str(text: &str) -> Result<Self, ParseNumberError> {
         let decimal = Decimal::parse(text).ok_or(ParseNumberError)?;
-        let mut number = FluentNumber::of(Amount::Decimal(decimal));
+        let mut number = FluentNumber::of(decimal);
         number.options.minimum_fraction_digits = text.find('.').map(|point| text.len() - point - 1);
         debug_assert!(number.options.minimum_fraction_digits <= Some(DIGITS));
         Ok(number)
@@ -123,14 +183,16 @@ macro_rules! integers {
         impl From<$integer> for FluentNumber {
             #[inline]
             fn from(n: $integer) -> Self {
-                let decimal = i128::try_from(n).ok().and_then(Decimal::of_integer);
-                FluentNumber::of(decimal.map_or(Amount::Float(n as f64), Amount::Decimal))
+                match i128::try_from(n).ok().and_then(Decimal::of_integer) {
+                    Some(decimal) => FluentNumber::of(decimal),
+                    None => FluentNumber::new(n as f64, FluentNumberOptions::default()),
+                }
             }
         }
 
         impl From<&FluentNumber> for $integer {
             fn from(number: &FluentNumber) -> Self {
-                match number.amount {
+                match number.amount() {
                     Amount::Decimal(decimal) => {
                         let integer = decimal.truncated();
                         let bound = if integer < 0 { <$integer>::MIN } else { <$integer>::MAX };
@@ -145,18 +207,26 @@ macro_rules! integers {
 
 integers!(i8, i16, i32, i64, i128, isize, u8, u16, u32, u64, u128, usize);
 
-/// Conversions from floats, by the digits that Rust shows, and to them.
+impl From<f64> for FluentNumber {
+    #[inline]
+    fn from(n: f64) -> Self {
+        FluentNumber::new(n, FluentNumberOptions::default())
+    }
+}
+
+/// The digits are those that Rust shows, and not those of the `f64` that the number is.
+impl From<f32> for FluentNumber {
+    fn from(n: f32) -> Self {
+        FluentNumber::from(n.to_string().parse().unwrap_or(f64::from(n)))
+    }
+}
+
+/// Conversions to floats.
 macro_rules! floats {
     ($($float:ty),*) => {$(
-        impl From<$float> for FluentNumber {
-            fn from(n: $float) -> Self {
-                FluentNumber::of_float(n.into(), &n.to_string())
-            }
-        }
-
         impl From<&FluentNumber> for $float {
             fn from(number: &FluentNumber) -> Self {
-                number.value() as $float
+                number.value as $float
             }
         }
     )*};

@@ -1,7 +1,9 @@
 //! How numbers are shown.
 
 use crate::args::FluentArgs;
+use crate::decimal::Decimal;
 use crate::value::FluentValue;
+use std::hash::{Hash, Hasher};
 
 /// What a number is a number of.
 #[derive(Clone, Copy, Debug, Default, PartialEq, Eq, Hash)]
@@ -13,6 +15,17 @@ pub enum FluentNumberStyle {
     Currency,
     /// A share of a hundred.
     Percent,
+}
+
+impl FluentNumberStyle {
+    /// The name that the function `NUMBER` has for it.
+    fn name(self) -> &'static str {
+        match self {
+            FluentNumberStyle::Decimal => "decimal",
+            FluentNumberStyle::Currency => "currency",
+            FluentNumberStyle::Percent => "percent",
+        }
+    }
 }
 
 impl From<&str> for FluentNumberStyle {
@@ -37,6 +50,17 @@ pub enum FluentNumberCurrencyDisplayStyle {
     Name,
 }
 
+impl FluentNumberCurrencyDisplayStyle {
+    /// The name that the function `NUMBER` has for it.
+    fn name(self) -> &'static str {
+        match self {
+            FluentNumberCurrencyDisplayStyle::Symbol => "symbol",
+            FluentNumberCurrencyDisplayStyle::Code => "code",
+            FluentNumberCurrencyDisplayStyle::Name => "name",
+        }
+    }
+}
+
 impl From<&str> for FluentNumberCurrencyDisplayStyle {
     fn from(name: &str) -> Self {
         match name {
@@ -47,7 +71,25 @@ impl From<&str> for FluentNumberCurrencyDisplayStyle {
     }
 }
 
-/// How a number is shown. `minimum_fraction_digits` counts, up to 18; the others are kept for the program.
+/// The digits that a number was written with, if it wasn't a float. They count as long as the number is their nearest float.
+#[doc(hidden)]
+#[derive(Clone, Copy, Debug, Default)]
+pub struct Written(pub(crate) Option<Decimal>);
+
+/// Options are compared without the digits of their number.
+impl PartialEq for Written {
+    fn eq(&self, _: &Written) -> bool {
+        true
+    }
+}
+
+impl Eq for Written {}
+
+impl Hash for Written {
+    fn hash<H: Hasher>(&self, _: &mut H) {}
+}
+
+/// How a number is shown, in the words of the function `NUMBER`.
 #[derive(Clone, Debug, PartialEq, Eq, Hash)]
 pub struct FluentNumberOptions {
     /// What the number is a number of.
@@ -68,6 +110,8 @@ pub struct FluentNumberOptions {
     pub minimum_significant_digits: Option<usize>,
     /// The greatest number of significant digits.
     pub maximum_significant_digits: Option<usize>,
+    #[doc(hidden)]
+    pub written: Written,
 }
 
 impl Default for FluentNumberOptions {
@@ -83,6 +127,7 @@ impl Default for FluentNumberOptions {
             maximum_fraction_digits: None,
             minimum_significant_digits: None,
             maximum_significant_digits: None,
+            written: Written(None),
         }
     }
 }
@@ -94,9 +139,46 @@ impl FluentNumberOptions {
             match value {
                 FluentValue::String(text) => self.set_text(name, text),
                 FluentValue::Number(number) => self.set_count(name, number.into()),
-                FluentValue::None | FluentValue::Error => {}
+                FluentValue::Custom(_) | FluentValue::None | FluentValue::Error => {}
             }
         }
+    }
+
+    /// Whether there is an option but for `minimum_fraction_digits`, which the digits of a number say.
+    #[inline]
+    pub(crate) fn are_more(&self) -> bool {
+        self.style != FluentNumberStyle::Decimal
+            || self.currency.is_some()
+            || self.currency_display != FluentNumberCurrencyDisplayStyle::Symbol
+            || !self.use_grouping
+            || self.minimum_integer_digits.is_some()
+            || self.maximum_fraction_digits.is_some()
+            || self.minimum_significant_digits.is_some()
+            || self.maximum_significant_digits.is_some()
+    }
+
+    /// The options that aren't the usual ones, as named arguments of the function `NUMBER`, each after a comma.
+    pub(crate) fn as_arguments(&self) -> String {
+        let usual = FluentNumberOptions::default();
+        let texts = [
+            ("style", Some(self.style.name()).filter(|_| self.style != usual.style)),
+            // A text that would end the literal is no currency.
+            ("currency", self.currency.as_deref().filter(|code| code.bytes().all(|byte| byte.is_ascii_alphanumeric()))),
+            (
+                "currencyDisplay",
+                Some(self.currency_display.name()).filter(|_| self.currency_display != usual.currency_display),
+            ),
+            ("useGrouping", Some("false").filter(|_| !self.use_grouping)),
+        ];
+        let counts = [
+            ("minimumIntegerDigits", self.minimum_integer_digits),
+            ("minimumFractionDigits", self.minimum_fraction_digits),
+            ("maximumFractionDigits", self.maximum_fraction_digits),
+            ("minimumSignificantDigits", self.minimum_significant_digits),
+            ("maximumSignificantDigits", self.maximum_significant_digits),
+        ];
+        let texts = texts.into_iter().filter_map(|(name, text)| Some(format!(", {name}: \"{}\"", text?)));
+        texts.chain(counts.into_iter().filter_map(|(name, count)| Some(format!(", {name}: {}", count?)))).collect()
     }
 
     fn set_text(&mut self, name: &str, text: &str) {

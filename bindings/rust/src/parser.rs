@@ -9,6 +9,8 @@ use std::ops::Range;
 pub struct ParserError {
     /// The bytes where it was found.
     pub pos: Range<usize>,
+    /// The bytes of the lines that couldn't be read because of it, or `None` if they aren't known.
+    pub slice: Option<Range<usize>>,
     /// What is wrong there.
     pub kind: ErrorKind,
 }
@@ -22,8 +24,37 @@ impl ParserError {
     fn read(line: &str) -> Option<ParserError> {
         let (place, kind) = line.strip_prefix("bytes ")?.split_once(": ")?;
         let (start, end) = place.split_once("..")?;
-        Some(ParserError { pos: start.parse().ok()?..end.parse().ok()?, kind: ErrorKind::named(kind)? })
+        Some(ParserError { pos: start.parse().ok()?..end.parse().ok()?, slice: None, kind: ErrorKind::named(kind)? })
     }
+
+    /// This error with the lines of its source that couldn't be read.
+    pub(crate) fn with_slice(self, source: &str) -> ParserError {
+        let slice = Some(junk_around(source, self.pos.start, &self.kind));
+        ParserError { slice, ..self }
+    }
+
+    /// This error with the character that is expected, by the sentence of a finding of `lint`.
+    pub(crate) fn with_token(mut self, sentence: &str) -> ParserError {
+        if let ErrorKind::ExpectedToken(token) = &mut self.kind {
+            let expected = sentence.strip_prefix("expected `").and_then(|rest| rest.chars().next());
+            *token = expected.unwrap_or(' ');
+        }
+        self
+    }
+}
+
+/// The lines that can't be read because of an error at a place: from where an entry begins to the next line that may begin
+/// one.
+fn junk_around(source: &str, at: usize, kind: &ErrorKind) -> Range<usize> {
+    let bytes = source.as_bytes();
+    let begins_line = |at: usize| at == 0 || bytes.get(at - 1) == Some(&b'\n');
+    let begins_entry =
+        |at: &usize| begins_line(*at) && matches!(bytes.get(*at), Some(b'a'..=b'z' | b'A'..=b'Z' | b'-' | b'#'));
+    // What can't begin an entry is at the start of its junk.
+    let is_start = *kind == ErrorKind::ExpectedCharRange && begins_line(at);
+    let start = if is_start { at } else { (0..=at).rev().find(begins_entry).unwrap_or(0) };
+    let end = (start + 1..bytes.len()).filter(|end| *end > at).find(begins_entry);
+    start..end.unwrap_or(bytes.len())
 }
 
 impl fmt::Display for ParserError {
@@ -40,15 +71,19 @@ macro_rules! error_kinds {
         /// What is wrong with a source. It is shown as its name.
         #[derive(Clone, Copy, Debug, PartialEq, Eq)]
         pub enum ErrorKind {
+            /// This character has to be here, such as `=` after an id.
+            ExpectedToken(char),
             $($(#[$comment])* $kind,)*
         }
 
         impl ErrorKind {
             #[cfg(test)]
-            const ALL: &'static [ErrorKind] = &[$(ErrorKind::$kind,)*];
+            const ALL: &'static [ErrorKind] = &[ErrorKind::ExpectedToken(' '), $(ErrorKind::$kind,)*];
 
+            /// The kind of a name. The character that is expected isn't in it.
             fn named(name: &str) -> Option<ErrorKind> {
                 match name {
+                    "ExpectedToken" => Some(ErrorKind::ExpectedToken(' ')),
                     $(stringify!($kind) => Some(ErrorKind::$kind),)*
                     _ => None,
                 }
@@ -58,6 +93,7 @@ macro_rules! error_kinds {
         impl fmt::Display for ErrorKind {
             fn fmt(&self, f: &mut fmt::Formatter<'_>) -> fmt::Result {
                 f.write_str(match self {
+                    ErrorKind::ExpectedToken(_) => "ExpectedToken",
                     $(ErrorKind::$kind => stringify!($kind),)*
                 })
             }
@@ -66,8 +102,6 @@ macro_rules! error_kinds {
 }
 
 error_kinds! {
-    /// Another character has to be here, such as `=` after an id.
-    ExpectedToken,
     /// A character of some range has to be here, such as a letter.
     ExpectedCharRange,
     /// A message has neither a value nor an attribute.
@@ -119,8 +153,17 @@ mod tests {
     #[test]
     fn errors_are_read_as_they_are_shown() {
         for kind in ErrorKind::ALL {
-            let error = ParserError { pos: 7..8, kind: *kind };
+            let error = ParserError { pos: 7..8, slice: None, kind: *kind };
             assert_eq!(ParserError::read(&error.to_string()), Some(error));
         }
+    }
+
+    #[test]
+    fn junk_is_found_around_an_error() {
+        let source = "a = b\ng@Rb@ge\n  more\nc = {\n*junk\n";
+        let slice = |at, kind| &source[junk_around(source, at, &kind)];
+        assert_eq!(slice(7, ErrorKind::ExpectedToken('=')), "g@Rb@ge\n  more\n");
+        assert_eq!(slice(26, ErrorKind::ExpectedInlineExpression), "c = {\n*junk\n");
+        assert_eq!(slice(27, ErrorKind::ExpectedCharRange), "*junk\n");
     }
 }

@@ -86,6 +86,13 @@ pub enum ResolverError {
     Cyclic,
     /// A pattern holds more placeables than it may, those of the patterns that it refers to included.
     TooManyPlaceables,
+    /// A function of the program reported an error.
+    Function {
+        /// Its name.
+        id: String,
+        /// What it reported.
+        text: String,
+    },
     /// Memory ran out, or the answer nests too deep for 1.5 MB of the machine's stack.
     OutOfMemory,
 }
@@ -116,6 +123,7 @@ impl fmt::Display for ResolverError {
             ResolverError::MissingDefault => f.write_str("No default"),
             ResolverError::Cyclic => f.write_str("Cyclical dependency detected"),
             ResolverError::TooManyPlaceables => f.write_str("Too many placeables"),
+            ResolverError::Function { id, text } => write!(f, "{id}(): {text}"),
             ResolverError::OutOfMemory => f.write_str("out of memory"),
         }
     }

@@ -1,6 +1,6 @@
 //! What programs that use the crate `fluent-bundle` write.
 
-use kozhvadi::types::{FluentNumber, FluentNumberOptions, ParseNumberError};
+use kozhvadi::types::{FluentNumber, FluentNumberOptions, FluentNumberStyle, ParseNumberError};
 use kozhvadi::{
     concurrent, fluent_args, ErrorKind, FluentArgs, FluentBundle, FluentError, FluentMessage, FluentResource,
 };
@@ -149,7 +149,8 @@ fn a_writer_that_panics_leaves_the_bundle() {
 
 #[test]
 fn floats_are_numbers() {
-    let bundle = bundle(&["a = { NUMBER($n) }\nb = { $n ->\n    [one] one\n   *[other] other\n}\nc = { $n }\n"]);
+    let mut bundle = bundle(&["a = { NUMBER($n) }\nb = { $n ->\n    [one] one\n   *[other] other\n}\nc = { $n }\n"]);
+    bundle.set_plain_numbers(true);
     let number =
         |n: f64| (text_of(&bundle, "a", &fluent_args!["n" => n]), text_of(&bundle, "c", &fluent_args!["n" => n]));
     assert_eq!(number(1e-5 / 3.0), ("0.000003333333333333".into(), "0.000003333333333333".into()));
@@ -163,6 +164,27 @@ fn floats_are_numbers() {
 }
 
 #[test]
+fn a_float_is_shown_with_the_digits_of_the_locale() {
+    let source =
+        "a = { $n }\nb = { NUMBER($n, maximumFractionDigits: 5) }\nc = { NUMBER($n, minimumFractionDigits: 1) }\n";
+    let bundle = bundle(&[source]);
+    let of = |id: &str, n: FluentValue<'_>| text_of(&bundle, id, &fluent_args!["n" => n]);
+    for (n, a, b, c) in [
+        (1.0 / 3.0, "0.333", "0.33333", "0.333"),
+        (0.1 + 0.2, "0.3", "0.3", "0.3"),
+        (1234.5678, "1,234.568", "1,234.5678", "1,234.568"),
+        (2.0, "2", "2", "2.0"),
+    ] {
+        assert_eq!([of("a", n.into()), of("b", n.into()), of("c", n.into())], [a, b, c], "{n}");
+    }
+    // A text has the digits that it is written with.
+    assert_eq!(of("a", FluentValue::try_number("0.12345")), "0.12345");
+    let least =
+        |n| FluentNumber::new(n, FluentNumberOptions { minimum_fraction_digits: Some(2), ..Default::default() });
+    assert_eq!(of("a", least(0.5).into()), "0.50");
+}
+
+#[test]
 fn numbers_have_options() {
     let bundle = bundle(&["a = { $n ->\n    [one] one { $n }\n   *[other] other { $n }\n}\n"]);
     let mut options = FluentNumberOptions::default();
@@ -170,6 +192,17 @@ fn numbers_have_options() {
     assert!(!options.use_grouping);
     assert_eq!(text_of(&bundle, "a", &fluent_args!["n" => FluentNumber::new(1.0, options)]), "other 1.00");
     assert_eq!(text_of(&bundle, "a", &fluent_args!["n" => FluentNumber::from(1.0)]), "one 1");
+    let euros = FluentNumberOptions {
+        style: FluentNumberStyle::Currency,
+        currency: Some("EUR".to_owned()),
+        maximum_fraction_digits: Some(0),
+        ..Default::default()
+    };
+    let number = FluentNumber { value: 1234.5, options: euros };
+    assert_eq!(text_of(&bundle, "a", &fluent_args!["n" => number]), "other €1,235");
+    let large = FluentNumber::from(i64::MAX);
+    assert_eq!((large.value, large.as_string().as_ref()), (i64::MAX as f64, "9223372036854775807"));
+    assert_eq!(FluentNumber { value: 7.0, ..large }.as_string(), "7");
     assert_eq!("1e5".parse::<FluentNumber>(), Err(ParseNumberError));
     assert_eq!(FluentValue::try_number("1e5"), FluentValue::from("1e5"));
     assert_eq!(FluentValue::from(5), FluentValue::try_number("5"));
@@ -219,13 +252,14 @@ fn comments_have_no_errors() {
     let source = "#bad é\nx\n##bad\r\ny = {\n#\nb = c";
     let (_, errors) = FluentResource::try_new(source.into()).expect_err("The source has errors.");
     let found: Vec<_> = errors.into_iter().map(|error| (error.pos, error.kind)).collect();
-    assert_eq!(found, [(9..10, ErrorKind::ExpectedToken), (23..24, ErrorKind::ExpectedInlineExpression)]);
+    assert_eq!(found, [(9..10, ErrorKind::ExpectedToken('=')), (23..24, ErrorKind::ExpectedInlineExpression)]);
 }
 
 #[test]
 fn errors_of_a_source_have_places() {
     let (_, errors) = FluentResource::try_new("a = b\ng@Rb@ge\nc = {\n".into()).expect_err("The source has errors.");
-    assert_eq!((errors[0].pos.clone(), errors[0].kind), (7..8, ErrorKind::ExpectedToken));
+    assert_eq!((errors[0].pos.clone(), errors[0].kind), (7..8, ErrorKind::ExpectedToken('=')));
+    assert_eq!((errors[0].slice.clone(), errors[1].slice.clone()), (Some(6..14), Some(14..20)));
     assert_eq!(errors[1].kind, ErrorKind::ExpectedInlineExpression);
     assert_eq!(FluentError::from(errors[0].clone()).to_string(), "Parser error: bytes 7..8: ExpectedToken");
 }

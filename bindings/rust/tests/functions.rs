@@ -38,7 +38,7 @@ fn show<'a>(positional: &[FluentValue<'a>], named: &FluentArgs<'_>) -> FluentVal
     let shown = |value: &FluentValue<'_>| match value {
         FluentValue::String(text) => text.to_string(),
         FluentValue::Number(number) => number.as_string().into_owned(),
-        FluentValue::None | FluentValue::Error => "nothing".to_owned(),
+        FluentValue::Custom(_) | FluentValue::None | FluentValue::Error => "nothing".to_owned(),
     };
     let mut all: Vec<String> = positional.iter().map(shown).collect();
     all.extend(named.iter().map(|(name, value)| format!("{name}: {}", shown(value))));
@@ -89,6 +89,7 @@ fn ids_are_shared() {
     let mut bundle = bundle();
     let taken = |id: &str| format!("Attempt to override an existing function: \"{id}\".");
     bundle.add_function("SHOW", show).unwrap();
+    bundle.add_function("NUMBER", show).unwrap();
     for id in ["SHOW", "NUMBER", "plain"] {
         let error = bundle.add_function(id, show).unwrap_err();
         assert!(matches!(&error, FluentError::Overriding { id: other, .. } if other == id), "{error} {}", taken(id));
@@ -99,13 +100,56 @@ fn ids_are_shared() {
 }
 
 #[test]
-fn no_value_is_shown_as_the_call() {
-    for value in [FluentValue::None, FluentValue::Error] {
+fn no_value_is_shown_as_nothing_or_as_the_call() {
+    for (value, expected) in [(FluentValue::None, ""), (FluentValue::Error, "SHOW()")] {
         let mut bundle = bundle();
-        bundle.add_function("SHOW", move |_, _| value.into_owned()).unwrap();
+        let is_none = value == FluentValue::None;
+        bundle.add_function("SHOW", move |_, _| if is_none { FluentValue::None } else { FluentValue::Error }).unwrap();
         let (text, errors) = shown(&bundle, "gone", &fluent_args!["gone" => 1]);
-        assert_eq!((text.as_str(), errors.len()), ("SHOW()", 0));
+        assert_eq!((text.as_str(), errors.len()), (expected, 0));
     }
+}
+
+#[test]
+fn a_function_reports_errors() {
+    let mut bundle = bundle();
+    bundle
+        .add_fallible_function("SHOW", |given, _| match given {
+            [FluentValue::Number(_), ..] => Err("no numbers".to_owned()),
+            given => Ok(given[0].clone()),
+        })
+        .unwrap();
+    let (text, errors) = shown(&bundle, "twice", &fluent_args!["n" => 2]);
+    assert_eq!(text, "{SHOW()}, {SHOW()} and SHOW()");
+    let each = "Resolver error: SHOW(): no numbers";
+    assert_eq!(errors, [each, each]);
+    let (text, errors) = shown(&bundle, "gone", &fluent_args![]);
+    assert_eq!((text.as_str(), errors.len()), ("SHOW()", 1));
+}
+
+#[test]
+fn number_of_the_program() {
+    let source =
+        "a = { NUMBER($n) ->\n    [one] one { NUMBER($n, minimumFractionDigits: 1) }\n   *[other] { NUMBER($n) }\n}\n";
+    let mut bundle: FluentBundle = FluentBundle::new(vec!["de"]);
+    bundle.set_use_isolating(false);
+    bundle.add_resource(FluentResource::try_new(source.to_owned()).unwrap()).unwrap();
+    let asked = Arc::new(AtomicUsize::new(0));
+    let counted = asked.clone();
+    let merged = move |positional: &[FluentValue<'_>], named: &FluentArgs<'_>| match positional {
+        [FluentValue::Number(number)] => {
+            counted.fetch_add(1, Ordering::Relaxed);
+            let mut number = number.clone();
+            number.options.merge(named);
+            FluentValue::Number(number)
+        }
+        _ => FluentValue::Error,
+    };
+    bundle.add_function("NUMBER", move |positional, named| merged(positional, named).into_owned()).unwrap();
+    assert_eq!(shown(&bundle, "a", &fluent_args!["n" => 1]).0, "one 1,0");
+    assert_eq!(asked.load(Ordering::Relaxed), 2);
+    assert_eq!(shown(&bundle, "a", &fluent_args!["n" => 1234.5]).0, "1.234,5");
+    assert_eq!(shown(&bundle, "a", &fluent_args!["n" => "x"]).0, "NUMBER()");
 }
 
 #[test]

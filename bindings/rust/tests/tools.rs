@@ -22,10 +22,7 @@ fn reports() {
     assert_eq!(report.findings[1].offset, 15);
     assert_eq!(report.findings[1].severity, Severity::Error);
     assert_eq!(report.findings[1].hint, None);
-    assert_eq!(
-        report.findings[3].hint.as_deref(),
-        Some("a line that continues a text begins with at least one space")
-    );
+    assert_eq!(report.findings[3].hint.as_deref(), Some("a line that continues a text begins with at least one space"));
 }
 
 #[test]
@@ -58,7 +55,7 @@ fn reports_as_asked() {
 #[test]
 fn no_report() {
     let of = |text: &str, locale| lint(&[("a", text)], &[], &LintOptions { locale, ..LintOptions::default() });
-    assert_eq!(of("", Some("plx")), Err(LintError::UnknownLocale));
+    assert_eq!(of("", Some("no tag")), Err(LintError::UnknownLocale));
     assert_eq!(of("", Some("C")).expect("It is made.").findings, []);
     let deep = format!("a = {}1{}\n", "{".repeat(1430), "}".repeat(1430));
     assert_eq!(of(&deep, None), Err(LintError::OutOfMemory));

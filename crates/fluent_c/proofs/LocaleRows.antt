@@ -1,6 +1,6 @@
 -- Which locales are those of a program that has set none, by computing.
 use Rattle.std.proofs.Common.{◌≡◌, refl, codes, true, false, All, []}
-use Rattle.fluent_c.specs.Locales.{is_posix}
+use Rattle.fluent_c.specs.Locales.{has_rules, is_posix}
 
 alone : is_posix (codes "C") ≡ true
 alone = refl
@@ -40,3 +40,15 @@ a_language = refl
 
 no_name : is_posix [] ≡ false
 no_name = refl
+
+own_rules : has_rules (codes "pt-AO") ≡ true
+own_rules = refl
+
+rules_of_the_root : has_rules (codes "oc") ≡ false
+rules_of_the_root = refl
+
+rules_of_posix : has_rules (codes "C.UTF-8") ≡ true
+rules_of_posix = refl
+
+no_tag : has_rules (codes "pl pl") ≡ false
+no_tag = refl

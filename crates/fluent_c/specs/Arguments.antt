@@ -1,14 +1,15 @@
 -- The arguments of a message, as C hands them over.
 use Rattle.std.specs.Prelude.{◌≡◌, ◌==◌, if◌then◌else◌, List, Option, Some, None, IsSome, IsUtf8, All, Contains, option_map, unwrap_or, pos}
 use Rattle.fluent_grammar.specs.Words.{Text}
-use Rattle.fluent_number.specs.Number.{number_from_integer}
+use Rattle.fluent_number.specs.Number.{Number, number_from_integer}
+use Rattle.fluent_number.specs.Options.{default_options}
 use Rattle.fluent_number.specs.Reading.{read_number}
 use Rattle.fluent_value.specs.Args.{with_argument}
 use Rattle.fluent_value.specs.Value.{Value, error, none, number, text}
 use Rattle.fluent_value.specs.View.{value_view}
 use Rattle.fluent_value.specs.declared.custom.NoCustom.{NoCustom}
 use Rattle.fluent_value.specs.declared.value.FluentValue.{FluentValue}
-use Rattle.fluent_c.specs.declared.TheConstants.{FLUENT_TEXT, FLUENT_DECIMAL, FLUENT_UNSIGNED, FLUENT_NO_VALUE}
+use Rattle.fluent_c.specs.declared.TheConstants.{FLUENT_TEXT, FLUENT_DECIMAL, FLUENT_UNSIGNED, FLUENT_NO_VALUE, FLUENT_FLOAT}
 use Rattle.fluent_c.specs.declared.arguments.ArgumentRefusal.{ArgumentRefusal}
 use Rattle.fluent_c.specs.declared.arguments.ArgumentRefusal.TheVariants.{Memory, NotUtf8, NoValue}
 use Rattle.fluent_c.specs.declared.arguments.FluentArgument.{FluentArgument}
@@ -17,13 +18,21 @@ use Rattle.fluent_c.specs.declared.arguments.FluentArgument.{FluentArgument}
 abbrev pub number_given : Text → Option (Value (Unit {0}))
 number_given t = option_map number (read_number t)
 
--- the value of an argument, if it has one: by its kind its text, also if that is a number's; the number that its text is; one of
--- its integers; or what a missing value is
+-- A float has no written digits, so how much it is doesn't say how many digits are shown.
+abbrev pub without_digits : Number → Number
+without_digits n = record { value = n.value; options = default_options }
+
+abbrev pub float_given : Text → Option (Value (Unit {0}))
+float_given t = option_map (λ n. number (without_digits n)) (read_number t)
+
+-- the value of an argument, if it has one: by its kind its text, also if that is a number's; the number that its text is, with its
+-- digits or without them; one of its integers; or what a missing value is
 abbrev pub value_given : FluentArgument → Option (Value (Unit {0}))
 value_given a =
     if a.kind == FLUENT_TEXT then Some (text a.text.now) else (if a.kind == FLUENT_DECIMAL then number_given a.text.now else (if a.kind == 2
     then Some (number (number_from_integer a.integer)) else (if a.kind == FLUENT_UNSIGNED then Some (number (number_from_integer (pos a.unsigned)))
-    else (if a.kind == FLUENT_NO_VALUE then Some error else None))))
+    else (if a.kind == FLUENT_NO_VALUE then Some error else (if a.kind == FLUENT_FLOAT
+    then float_given a.text.now else None)))))
 
 -- what the code's value stands for
 abbrev pub value_seen : Option (FluentValue NoCustom) → Option (Value (Unit {0}))

@@ -3,6 +3,8 @@ use Rattle.std.specs.Prelude.{◌||◌, ◌&&◌, ◌==◌, Bool, true, false, [
 use Rattle.std.specs.Char.{to_ascii_lowercase}
 use Rattle.fluent_grammar.specs.Words.{Text}
 use Rattle.fluent_languages.specs.Tags.{same_text}
+use Rattle.fluent_plurals.specs.Plurals.{has_own_rules}
+use Rattle.fluent_plurals.specs.Tags.{is_tag}
 
 -- a codeset in small letters, without its `-`
 abbrev pub folded : Text → Text
@@ -20,3 +22,7 @@ is_named (letter ∷ name) (byte ∷ locale) = to_ascii_lowercase byte == letter
 abbrev pub is_posix : Text → Bool
 is_posix locale =
     nat_le (length locale) 255 && (is_named (codes "c") locale || is_named (codes "posix") locale)
+
+-- the language of a locale has plural rules of its own
+abbrev pub has_rules : Text → Bool
+has_rules locale = is_posix locale || (is_tag locale && has_own_rules locale)

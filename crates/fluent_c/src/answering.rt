@@ -36,7 +36,7 @@ pub(crate) enum Refusal {
     Memory = 1,
     /// A source isn't UTF-8.
     NotUtf8 = 2,
-    /// The locale has no plural rules.
+    /// The locale is no tag of a language.
     UnknownLocale = 3,
 }
 
@@ -186,7 +186,7 @@ fn answer(
 /// The call returns [`FLUENT_READ`], also if a source has errors or a request is bad: then `made`
 /// holds the answers, and what it held before is freed. It returns [`FLUENT_NOT_UTF8`] if a source
 /// isn't UTF-8, which is seen before anything is allocated, [`FLUENT_UNKNOWN_LOCALE`] if the locale
-/// has no plural rules, or [`FLUENT_NO_MEMORY`] otherwise, and `made` is unchanged then. All other
+/// is no tag, or [`FLUENT_NO_MEMORY`] otherwise, and `made` is unchanged then. All other
 /// memory is freed when it returns.
 #[unsafe(no_mangle)]
 pub extern "C" fn fluent_answer(

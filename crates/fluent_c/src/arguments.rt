@@ -4,12 +4,14 @@ ghost use Rattle.std.specs.Prelude.{◌≡◌, [], IfErr, IfOk, OnOk, map};
 ghost use Rattle.std.specs.List.Sorted.{IsPermutation, IsSortedByKey, IsStableByKey};
 ghost use Rattle.fluent_run.specs.DeskView.{arguments_view};
 ghost use Rattle.fluent_value.specs.Args.{all_set, order};
-ghost use Rattle.fluent_c.specs.Arguments.{AreRefusedFor, AreTaken, IsRefusedFor, IsTaken, number_given, pair_of, value_given, value_seen, with_given};
+ghost use Rattle.fluent_c.specs.Arguments.{AreRefusedFor, AreTaken, IsRefusedFor, IsTaken, float_given, number_given, pair_of, value_given, value_seen, with_given};
 ghost use Rattle.fluent_c.specs.declared.arguments.ArgumentRefusal.TheVariants.{Memory};
 
 use crate::utf8::text_in;
-use crate::{FLUENT_DECIMAL, FLUENT_INTEGER, FLUENT_NO_VALUE, FLUENT_TEXT, FLUENT_UNSIGNED};
-use fluent_number::FluentNumber;
+use crate::{
+    FLUENT_DECIMAL, FLUENT_FLOAT, FLUENT_INTEGER, FLUENT_NO_VALUE, FLUENT_TEXT, FLUENT_UNSIGNED,
+};
+use fluent_number::{FluentNumber, FluentNumberOptions};
 use fluent_value::{FluentArgs, FluentValue, NoCustom};
 use std::alloc::{AllocError, Global};
 use std::borrow::CowStr;
@@ -28,8 +30,8 @@ pub struct FluentArgument<'a> {
     pub text: &'a [u8],
     pub integer: i64,
     pub unsigned: u64,
-    /// [`FLUENT_TEXT`], [`FLUENT_DECIMAL`], [`FLUENT_INTEGER`], [`FLUENT_UNSIGNED`] or
-    /// [`FLUENT_NO_VALUE`].
+    /// [`FLUENT_TEXT`], [`FLUENT_DECIMAL`], [`FLUENT_INTEGER`], [`FLUENT_UNSIGNED`],
+    /// [`FLUENT_NO_VALUE`] or [`FLUENT_FLOAT`].
     pub kind: u32,
 }
 
@@ -72,6 +74,9 @@ fn value_of<'a>(argument: &FluentArgument<'a>, text: &'a str) -> Option<FluentVa
     if argument.kind == FLUENT_NO_VALUE {
         return Some(FluentValue::Error);
     }
+    if argument.kind == FLUENT_FLOAT {
+        return float_of(text);
+    }
     None
 }
 
@@ -81,6 +86,19 @@ fn number_of<'a>(text: &'a str) -> Option<FluentValue<'a, NoCustom>>
 {
     match text.parse::<FluentNumber>() {
         Ok(number) => Some(FluentValue::Number(number)),
+        Err(_) => None,
+    }
+}
+
+/// The number that a text is, if it is one. Its digits don't say how many are shown.
+fn float_of<'a>(text: &'a str) -> Option<FluentValue<'a, NoCustom>>
+    ensures { value_seen result ≡ float_given text.now }
+{
+    match text.parse::<FluentNumber>() {
+        Ok(number) => Some(FluentValue::Number(FluentNumber::new(
+            number.value,
+            FluentNumberOptions::default(),
+        ))),
         Err(_) => None,
     }
 }

@@ -70,7 +70,7 @@ pub(crate) struct Asking {
 /// Messages may call functions of these names, if there are any.
 ///
 /// # Errors
-/// [`Refusal::UnknownLocale`] if the locale has no plural rules, [`Refusal::NotUtf8`] if a source
+/// [`Refusal::UnknownLocale`] if the locale is no tag, [`Refusal::NotUtf8`] if a source
 /// isn't UTF-8, and [`Refusal::Memory`] if memory or the budget runs out; nothing is kept.
 fn kept(
     alloc: Global,
@@ -139,7 +139,7 @@ pub(crate) fn keep(
 /// [`fluent_answer`](crate::fluent_answer). The call returns [`FLUENT_READ`], also if a source has
 /// errors: then `made` keeps the bundle, and what it kept before is freed. It returns
 /// [`FLUENT_NOT_UTF8`] if a source isn't UTF-8, which is seen before anything is allocated,
-/// [`FLUENT_UNKNOWN_LOCALE`] if the locale has no plural rules, or [`FLUENT_NO_MEMORY`] otherwise,
+/// [`FLUENT_UNKNOWN_LOCALE`] if the locale is no tag, or [`FLUENT_NO_MEMORY`] otherwise,
 /// and `made` is unchanged then.
 ///
 /// It is [`fluent_bundle_new_within`] the budget of a thread, [`StackBudget::THREAD`].

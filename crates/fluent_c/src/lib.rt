@@ -52,6 +52,7 @@ pub use formatting::fluent_bundle_format;
 pub use languages::fluent_negotiate;
 pub use linting::{FluentLintOptions, fluent_lint};
 pub use listing::{fluent_bundle_attributes, fluent_bundle_messages};
+pub use locales::fluent_has_plural_rules;
 pub use occurrences::fluent_occurrences;
 pub use options::{FluentBundleOptions, fluent_bundle_new_with};
 pub use outline::fluent_outline;
@@ -72,7 +73,7 @@ pub const FLUENT_NOT_UTF8: u32 = 1;
 /// What a call returns that was refused memory, or was asked for what nests too deep for its budget
 /// of the machine's stack.
 pub const FLUENT_NO_MEMORY: u32 = 2;
-/// What a call returns whose locale has no plural rules.
+/// What a call returns whose locale is no tag of a language.
 pub const FLUENT_UNKNOWN_LOCALE: u32 = 3;
 /// What a call returns that asks for a message that isn't there.
 pub const FLUENT_NO_MESSAGE: u32 = 4;
@@ -106,6 +107,8 @@ pub const FLUENT_UNSIGNED: u32 = 3;
 /// The kind of an argument that has no value, as a variable that is missing; of an answer to a
 /// call, that there is none.
 pub const FLUENT_NO_VALUE: u32 = 4;
+/// The kind of an argument that is a float: a decimal whose digits don't say how many are shown.
+pub const FLUENT_FLOAT: u32 = 5;
 /// The strategy that finds all languages that suit any of the user's.
 pub const FLUENT_FILTERING: u32 = 0;
 /// The strategy that finds the best language for each of the user's.

@@ -58,7 +58,7 @@ fn are_all_utf8(
 /// The plural rules that the tag of a locale names, and none for the empty tag.
 ///
 /// # Errors
-/// [`Refusal::UnknownLocale`] if the locale has no plural rules.
+/// [`Refusal::UnknownLocale`] if the locale is no tag.
 fn plurals_looked_for(locale: &[u8]) -> Result<Option<LanguagePlurals>, Refusal>
     ensures known { IfOk result (λ plurals. plurals_looked_for locale.now ≡ Some plurals) }
     ensures unknown { IfErr result (λ refusal. refusal ≡ UnknownLocale
@@ -117,7 +117,7 @@ fn report_by(
 /// The report on files.
 ///
 /// # Errors
-/// [`Refusal::UnknownLocale`] if the locale has no plural rules, [`Refusal::NotUtf8`] if a name or
+/// [`Refusal::UnknownLocale`] if the locale is no tag, [`Refusal::NotUtf8`] if a name or
 /// a text isn't UTF-8, and [`Refusal::Memory`] if memory runs out, or a file nests too deep;
 /// nothing is kept.
 fn report_on(
@@ -182,7 +182,7 @@ fn status_of(has_failed: bool) -> u32
 /// error, and with `strict` no warning, and otherwise [`FLUENT_HAS_ERRORS`]: in both cases `report`
 /// holds the lines, and what it held before is freed. It returns [`FLUENT_NOT_UTF8`] if a name or a
 /// text isn't UTF-8, which is seen before anything is allocated, [`FLUENT_UNKNOWN_LOCALE`] if the
-/// locale has no plural rules, or [`FLUENT_NO_MEMORY`] otherwise, and `report` is unchanged then.
+/// locale is no tag, or [`FLUENT_NO_MEMORY`] otherwise, and `report` is unchanged then.
 /// All other memory is freed when it returns.
 #[unsafe(no_mangle)]
 pub extern "C" fn fluent_lint(

@@ -1,8 +1,21 @@
-//! The locales of a program that has set none.
+//! The locales of a program that has set none, and whether a locale has plural rules of its own.
 
 ghost use Rattle.std.specs.Prelude.{◌≡◌};
 ghost use Rattle.fluent_languages.specs.Tags.{same_text};
-ghost use Rattle.fluent_c.specs.Locales.{folded, is_named, is_posix};
+ghost use Rattle.fluent_c.specs.Locales.{folded, has_rules, is_named, is_posix};
+
+use fluent_plurals::{LanguagePlurals, is_tag};
+
+/// Whether the language of a locale has plural rules of its own.
+///
+/// For a tag such as `oc` it hasn't, so every number is `other`. It hasn't for a text that is no
+/// tag, for which a bundle can't be made. `C` and `POSIX` have those of `und`.
+#[unsafe(no_mangle)]
+pub extern "C" fn fluent_has_plural_rules(locale: &[u8]) -> bool
+    ensures { result ≡ has_rules locale.now }
+{
+    names_posix(locale) || (is_tag(locale) && LanguagePlurals::has_own_rules(locale))
+}
 
 /// Whether a locale is that of a program that has set none: `C` or `POSIX`, also with UTF-8.
 pub(crate) fn names_posix(locale: &[u8]) -> bool

@@ -10,7 +10,8 @@ use Rattle.fluent_number.specs.declared.plural.PluralRuleType.{PluralRuleType}
 use Rattle.fluent_number.specs.declared.plural.PluralRuleType.TheVariants.{CARDINAL, ORDINAL}
 use Rattle.fluent_plurals.specs.Languages.{languages}
 use Rattle.fluent_plurals.specs.Lookup.{Entry, begins_with_tag}
-use Rattle.fluent_plurals.specs.Plurals.{english_rules, plurals_by, plurals_for, plurals_of, root}
+use Rattle.fluent_plurals.specs.Plurals.{english_rules, has_own_rules, plurals_by, plurals_for, plurals_of, root}
+use Rattle.fluent_plurals.specs.Tags.{is_tag}
 use Rattle.fluent_plurals.specs.declared.plurals.LanguagePlurals.{LanguagePlurals}
 use Rattle.fluent_plurals.specs.declared.sets.Cardinal.TheVariants as cardinal
 use Rattle.fluent_plurals.specs.declared.sets.Ordinal.TheVariants as ordinal
@@ -43,17 +44,38 @@ of_angola = refl
 undetermined : plurals_for (codes "und") ≡ Some root
 undetermined = refl
 
-no_language : plurals_for (codes "plx") ≡ None
-no_language = refl
+without_rules : plurals_for (codes "oc-FR") ≡ Some root
+without_rules = refl
 
 no_tag : plurals_for (codes "") ≡ None
 no_tag = refl
 
-first_known : plurals_of (codes "tlh" ∷ codes "en" ∷ codes "pl" ∷ []) ≡ Some english_rules
-first_known = refl
+own_rules : has_own_rules (codes "pt-AO") ≡ true
+own_rules = refl
 
-none_known : plurals_of (codes "tlh" ∷ []) ≡ None
-none_known = refl
+rules_of_the_root : has_own_rules (codes "oc") ≡ false
+rules_of_the_root = refl
+
+-- all of these texts are tags, or none is
+abbrev all_tags : List Text → Bool
+all_tags [] = true
+all_tags (text ∷ texts) = is_tag text && all_tags texts
+
+abbrev any_tag : List Text → Bool
+any_tag [] = false
+any_tag (text ∷ texts) = is_tag text || any_tag texts
+
+tags : all_tags (codes "oc" ∷ codes "root" ∷ codes "sr@latin" ∷ codes "oc_FR.UTF-8" ∷ codes "zh-Hant_TW" ∷ codes "de-u-nu-latn" ∷ codes "ca-ES-valencia" ∷ codes "qu-419" ∷ codes "language" ∷ []) ≡ true
+tags = refl
+
+no_tags : any_tag (codes "" ∷ codes "C" ∷ codes "o1" ∷ codes "oc-" ∷ codes "oc--FR" ∷ codes "oc FR" ∷ codes "-oc" ∷ codes "languages" ∷ codes "oc-languages" ∷ codes "oc-.UTF-8" ∷ codes "@latin" ∷ []) ≡ false
+no_tags = refl
+
+first_tag : plurals_of (codes "?" ∷ codes "en" ∷ codes "pl" ∷ []) ≡ Some english_rules
+first_tag = refl
+
+no_first_tag : plurals_of (codes "?" ∷ []) ≡ None
+no_first_tag = refl
 
 -- the category of the number that a text is, in a language
 abbrev category : Text → PluralRuleType → Text → Option PluralCategory

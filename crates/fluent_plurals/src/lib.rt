@@ -14,6 +14,8 @@ mod ordinal;
 mod plurals;
 mod sets;
 mod table;
+mod tag;
 
 pub use language::begins_with_tag;
 pub use plurals::LanguagePlurals;
+pub use tag::is_tag;

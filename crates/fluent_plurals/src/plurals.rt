@@ -1,10 +1,11 @@
 //! The plural source of a language.
 ghost use Rattle.std.specs.Prelude.{◌≡◌, map, string_bytes};
-ghost use Rattle.fluent_plurals.specs.Plurals.{english_rules, plurals_by, plurals_for, plurals_of, root};
+ghost use Rattle.fluent_plurals.specs.Plurals.{english_rules, has_own_rules, plurals_by, plurals_for, plurals_of, root};
 
 use crate::language::first_fitting;
 use crate::sets::{Cardinal, Ordinal};
 use crate::table::LANGUAGES;
+use crate::tag::is_tag;
 use fluent_number::{PluralCategory, PluralOperands, PluralRuleType};
 use fluent_value::{FluentType, MemoizerKind};
 use std::alloc::{AllocError, Global};
@@ -44,11 +45,12 @@ impl LanguagePlurals {
     }
 
     /// The rules of the language that a tag names, such as `pl`, `pt-PT` or `zh_Hant_TW`, or `None`
-    /// if none are known.
+    /// if the text isn't [a tag](crate::is_tag).
     ///
     /// Of the tags with rules, the longest one that the text begins with counts, part by part and
     /// in letters of either case. So `pt_PT.UTF-8` has the rules of `pt-PT`, and `pt-AO` those of
-    /// `pt`.
+    /// `pt`. A language without rules of its own, such as `oc`, has those of the root: every number
+    /// is `other`. [`has_own_rules`](Self::has_own_rules) says which it is.
     ///
     /// ```
     /// let Some(polish) = LanguagePlurals::for_tag("pl") else {
@@ -62,20 +64,32 @@ impl LanguagePlurals {
         Self::for_tag_bytes(tag.as_bytes())
     }
 
-    /// The same for the bytes of a tag, which may be no UTF-8 after the part that counts.
+    /// The same for the bytes of a tag. A codeset or a modifier of POSIX may be no UTF-8.
     pub fn for_tag_bytes(tag: &[u8]) -> Option<Self>
         ensures { result ≡ plurals_for tag.now }
     {
+        if !is_tag(tag) {
+            return None;
+        }
         match first_fitting(&LANGUAGES, tag) {
             Some(language) => Some(LanguagePlurals {
                 cardinal: language.1,
                 ordinal: language.2,
             }),
-            None => None,
+            None => Some(Self::root()),
         }
     }
 
-    /// The rules of the first of some locales that has any, or `None` if none has.
+    /// Whether CLDR has plural rules for the language that a tag names.
+    ///
+    /// For `oc`, Occitan, it has none, so [`for_tag`](Self::for_tag) gives those of the root.
+    pub fn has_own_rules(tag: &[u8]) -> bool
+        ensures { result ≡ has_own_rules tag.now }
+    {
+        first_fitting(&LANGUAGES, tag).is_some()
+    }
+
+    /// The rules of the first of some locales that is a tag, or `None` if none is.
     ///
     /// A locale is looked up as [`for_tag`](Self::for_tag) does, so the locales of a bundle stand
     /// in the order in which a user prefers them.

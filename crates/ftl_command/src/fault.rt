@@ -34,7 +34,7 @@ pub enum Fault<'words> {
     CommandLine {
         advice: Option<String>,
     },
-    /// The locale has no plural rules.
+    /// The locale is no tag of a language.
     UnknownLocale {
         tag: &'words str,
     },

@@ -26,7 +26,7 @@ impl RunPlurals {
     /// The rules of the locale with this tag, and those of English without one.
     ///
     /// # Errors
-    /// [`Fault::UnknownLocale`] if the locale has no plural rules.
+    /// [`Fault::UnknownLocale`] if the locale is no tag.
     pub fn of_locale<'words>(locale: Option<&'words str>) -> Result<Self, Fault<'words>>
         ensures known { IfOk result (λ plurals.
             plurals_asked (option_map (λ tag. tag.now) locale.entry) ≡ Some plurals) }
@@ -58,7 +58,7 @@ impl RunRules {
     /// say how the locale writes them.
     ///
     /// # Errors
-    /// [`Fault::UnknownLocale`] if the locale has no plural rules.
+    /// [`Fault::UnknownLocale`] if the locale is no tag.
     pub fn of_locale<'words>(
         locale: Option<&'words str>,
         plain: bool,
@@ -90,7 +90,7 @@ fn numerals_of(locale: Option<&str>, plain: bool) -> Option<LocaleNumerals>
 /// The rules of the locale with this tag, if there is one.
 ///
 /// # Errors
-/// [`Fault::UnknownLocale`] if the locale has no plural rules.
+/// [`Fault::UnknownLocale`] if the locale is no tag.
 pub fn language_plurals<'words>(
     locale: Option<&'words str>,
 ) -> Result<Option<LanguagePlurals>, Fault<'words>>

@@ -10,7 +10,7 @@ import webbrowser
 from pathlib import Path
 from typing import Any
 
-from .._samples import has_rules
+from .._samples import is_tag
 from . import __doc__ as about
 from ._pages import Playground
 from ._project import Project
@@ -50,8 +50,8 @@ def _words() -> argparse.Namespace:
     parser.add_argument("--open", action="store_true", help="open the page in a browser")
     words = parser.parse_args()
     words.locale = words.locale or _guessed(words.path)
-    if not has_rules(words.locale):
-        parser.error(f"the locale {words.locale!r} has no plural rules")
+    if not is_tag(words.locale):
+        parser.error(f"the locale {words.locale!r} is no tag of a language")
     return words
 
 

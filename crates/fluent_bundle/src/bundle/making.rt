@@ -61,7 +61,7 @@ where
     F: FluentFunction<C>,
 {
     /// A new bundle without locales, with the plural rules of the language that a tag such as `pl`
-    /// or `pt-PT` names, or `None` if none are known. It doesn't allocate.
+    /// or `pt-PT` names, or `None` if the text is no tag. It doesn't allocate.
     ///
     /// A program with a formatter of its own calls [`new`](Self::new) with the rules of
     /// [`LanguagePlurals::for_tag`].
@@ -76,11 +76,10 @@ where
         Some(FluentBundle::new(alloc, Vec::new(alloc), plurals))
     }
 
-    /// A new bundle with the plural rules of the first of its locales that has any, or `None` if
-    /// none has.
+    /// A new bundle with the plural rules of the first of its locales that is a tag, or `None` if
+    /// none is.
     ///
-    /// Otherwise it is that of [`new`](Self::new). No other language stands in for locales without
-    /// rules: a program that has such a locale names the rules itself, say those of
+    /// Otherwise it is that of [`new`](Self::new). A language without rules of its own has those of
     /// [`LanguagePlurals::root`].
     pub fn for_locales(alloc: Global, locales: Vec<String>) -> Option<Self>
         ensures { option_map bundle_of result ≡ option_map (empty (texts_of locales)) (plurals_of (texts_of locales)) }
@@ -96,9 +95,9 @@ where
     F: FluentFunction<C>,
 {
     /// A new bundle without locales, with the plural rules of the language that a tag such as `de`
-    /// or `pt-PT` names, and with numbers as its locale writes them; `None` if no plural rules are
-    /// known. If CLDR doesn't say how the locale writes numbers, they are written plainly. It
-    /// doesn't allocate.
+    /// or `pt-PT` names, and with numbers as its locale writes them; `None` if the text is no tag.
+    /// If CLDR doesn't say how the locale writes numbers, they are written plainly. It doesn't
+    /// allocate.
     ///
     /// ```no_run
     /// let mut bundle = LocalizedBundle::for_tag(alloc, "de").context("unknown locale")?;
