@@ -133,7 +133,7 @@ pub fn system_languages() -> Vec<String> {
     languages_of(|name| env::var(name).ok())
 }
 
-/// The same in an environment.
+/// The languages that an environment asks for, which gives the value of a variable.
 fn languages_of(variable: impl Fn(&str) -> Option<String>) -> Vec<String> {
     let set = |name| variable(name).filter(|value| !value.is_empty());
     let locale = ["LC_ALL", "LC_MESSAGES", "LANG"].into_iter().find_map(set);

@@ -4,3 +4,4 @@ pub mod Within
 pub mod Seams
 pub mod Columns
 pub mod Splits
+pub mod Feeds

@@ -6,7 +6,7 @@ use Rattle.fluent_grammar.specs.Words.{Text}
 use Rattle.fluent_grammar.specs.Escapes.{is_continuation}
 use Rattle.lint_findings.specs.Position.{Position, position_after, first_position, position_of, line_from}
 use Rattle.lint_finding.specs.declared.places.SourcePosition.{SourcePosition}
-use Rattle.lint_finding.specs.PlaceView.{IsPlaceIn, BeginsLine, place_position}
+use Rattle.lint_finding.specs.PlaceView.{IsPlaceIn, IsNextFeed, NoFeeds, BeginsLine, place_position}
 use Rattle.lint_finding.proofs.Steps.{step, position_step, position_bound, line_zero, line_step}
 
 step_feed : (p : Position) (c : ℕ) → c ≡ 10 → step p c ≡ record { line = suc p.line; column = 1 }
@@ -38,22 +38,6 @@ line_begins source (suc n) within begins =
 module _ (source : Text) (p : SourcePosition) (is : IsPlaceIn source p) (more : p.offset < length source) where
   moved : position_of source (p.offset + 1) ≡ step (place_position p) (get_or source p.offset 0)
   moved = rw add-one (position_step source p.offset more ∙ ap (λ q. step q (get_or source p.offset 0)) is.position)
-
-  pub after_feed : get_or source p.offset 0 ≡ 10 →
-      IsPlaceIn source (record { offset = p.offset + 1; line_start = p.offset + 1; line = p.line + 1; column = 1 })
-  after_feed feed =
-      let here : position_of source (p.offset + 1) ≡ record { line = p.line + 1; column = 1 } =
-      rw (add-one p.line) (moved ∙ step_feed (place_position p) (get_or source p.offset 0) feed) in
-      let less : p.offset + 1 - 1 ≡ p.offset = omega arith in
-      let begins : BeginsLine source (p.offset + 1) = λ h. rw less feed in
-      record {
-        within = omega arith;
-        before = omega arith;
-        begins = begins;
-        position = here;
-        line_position = here;
-        line = (line_begins source (p.offset + 1) (omega arith) begins).1;
-      }
 
   same_line : (get_or source p.offset 0 ≡ 10 → ⊥) → line_from source (p.offset + 1) source ≡ drop p.line_start source
   same_line other = rw add-one (line_step source source p.offset more ∙ rw (ne_eqb (get_or source p.offset 0) 10 other) is.line)
@@ -108,6 +92,41 @@ line_goes_on source (suc n) some within other =
     let less : suc n - 1 ≡ n = omega arith in
     let other' : get_or source n 0 ≡ 10 → ⊥ = rw less at other in
     rw less (sym (ap (λ (q : Position). q.line) (position_step source n (omega arith)) ∙ step_line (position_of source n) (get_or source n 0) other'))
+
+-- ---- past the next line feed
+
+-- the line of an offset, and of an earlier one if no line ends between
+line_until : (source : Text) (n k m : ℕ) → n + k ≡ m → m ≤ length source → NoFeeds source n m →
+    (position_of source m).line ≡ (position_of source n).line
+line_until source n zero m sum within none =
+    let same : m ≡ n = omega (arith, sum) in
+    ap (λ i. (position_of source i).line) same
+line_until source n (suc k) m sum within none =
+    sym (line_goes_on source m (omega (arith, sum)) within (none (m - 1) (omega (arith, sum)) (omega (arith, sum))))
+    ∙ line_until source n k (m - 1) (omega (arith, sum)) (omega (arith, within)) (λ j after before. none j after (omega (arith, before)))
+
+pub after_line : (source : Text) (p : SourcePosition) (feed : ℕ) → IsPlaceIn source p → IsNextFeed source p.offset feed →
+    IsPlaceIn source (record { offset = feed + 1; line_start = feed + 1; line = p.line + 1; column = 1 })
+after_line source p feed is next =
+    let not_before : p.offset ≤ feed = next.not_before in
+    let within : feed < length source = next.within in
+    let on : (position_of source feed).line ≡ p.line =
+    line_until source p.offset (feed - p.offset) feed (omega arith) (omega arith) next.first
+    ∙ ap (λ (q : Position). q.line) is.position in
+    let stepped : position_of source (suc feed) ≡ record { line = suc p.line; column = 1 } =
+    position_step source feed within ∙ step_feed (position_of source feed) (get_or source feed 0) next.ends
+    ∙ ap (λ n. record { line = suc n; column = 1 }) on in
+    let here : position_of source (feed + 1) ≡ record { line = p.line + 1; column = 1 } = rw (add-one feed, add-one p.line) stepped in
+    let less : feed + 1 - 1 ≡ feed = omega arith in
+    let begins : BeginsLine source (feed + 1) = λ h. rw less next.ends in
+    record {
+      within = omega arith;
+      before = omega arith;
+      begins = begins;
+      position = here;
+      line_position = here;
+      line = (line_begins source (feed + 1) (omega arith) begins).1;
+    }
 
 -- the line of a place, by that of the line feed before it
 pub line_ended : (source : Text) (p : SourcePosition) → IsPlaceIn source p → 0 < p.line_start →

@@ -16,6 +16,21 @@ place_text p = decimal p.line ++ (codes ":" ++ decimal p.column)
 abbrev pub BeginsLine : Text → ℕ → Type 0
 BeginsLine source at = 0 < at → slice_index source (at - 1) ≡ line_feed
 
+-- no line feed is at this offset
+abbrev pub IsNoFeed : Text → ℕ → Type 0
+IsNoFeed source at = slice_index source at ≡ line_feed → ⊥
+
+-- no line feed is from this offset on up to that one
+abbrev pub NoFeeds : Text → ℕ → ℕ → Type 0
+NoFeeds source at end = (j : ℕ) → at ≤ j → j < end → IsNoFeed source j
+
+-- the first line feed from this offset on is there
+pub record IsNextFeed (source : Text) (at feed : ℕ) : Type 0 where
+  pub not_before : at ≤ feed
+  pub within : feed < length source
+  pub ends : slice_index source feed ≡ line_feed
+  pub first : NoFeeds source at feed
+
 -- Whether this is a place of the source: its line and column are those of its offset, and its line begins where it
 -- says.
 pub record IsPlaceIn (source : Text) (p : SourcePosition) : Type 0 where

@@ -4,8 +4,9 @@ ghost use Rattle.std.specs.Prelude.{◌≡◌, ◌+◌, ◌-◌, ◌<◌, ◌≤
 ghost use Rattle.std.specs.Str.{IsCharBoundary};
 ghost use Rattle.fluent_grammar.specs.Escapes.{is_continuation as is_continuation_byte};
 ghost use Rattle.lint_findings.specs.Position.{line_from, position_of, to_line_end};
-ghost use Rattle.lint_finding.specs.PlaceView.{IsAfter, IsPlaceIn, end_of_front, place_position, place_text};
+ghost use Rattle.lint_finding.specs.PlaceView.{IsAfter, IsNextFeed, IsNoFeed, IsPlaceIn, end_of_front, place_position, place_text};
 
+use memchr::memchr;
 use std::fmt;
 
 /// An offset of a source, with its line and column. Its text is `LINE:COLUMN`.
@@ -59,8 +60,8 @@ impl SourcePosition {
     }
 
     /// The place of an offset in the same source, or the source's end if the offset is after it.
-    /// Each byte between this place and that one is read, so the places of a source take one walk
-    /// in all if they are in order. If that one is on a line above, its line is read from the
+    /// Each line between this place and that one is looked for, so the places of a source take one
+    /// walk in all if they are in order. If that one is on a line above, its line is read from the
     /// start.
     pub fn moved_to(self, source: &str, offset: usize) -> SourcePosition
         requires { IsPlaceIn source.now self }
@@ -77,6 +78,9 @@ impl SourcePosition {
         }
         while offset < place.offset {
             place = place.before_byte(bytes);
+        }
+        while let Some(length) = memchr(b'\n', &bytes[place.offset..offset]) {
+            place = place.after_line(bytes, place.offset + length);
         }
         while place.offset < offset {
             place = place.after_byte(bytes);
@@ -132,30 +136,39 @@ impl SourcePosition {
         }
     }
 
-    /// The place after the byte at this one.
+    /// The start of the next line, if this place's line ends at this line feed.
+    fn after_line(self, source: &[u8], feed: usize) -> SourcePosition
+        requires place { IsPlaceIn source.now self }
+        requires feed { IsNextFeed source.now self.offset feed }
+        ensures place { IsPlaceIn source.now result }
+        ensures offset { result.offset ≡ feed + 1 }
+    {
+        let start = feed + 1;
+        SourcePosition {
+            offset: start,
+            line_start: start,
+            line: self.line + 1,
+            column: 1,
+        }
+    }
+
+    /// The place after the byte at this one, which isn't a line feed.
     fn after_byte(self, source: &[u8]) -> SourcePosition
         requires place { IsPlaceIn source.now self }
         requires before_end { self.offset < length source.now }
+        requires on_line { IsNoFeed source.now self.offset }
         ensures place { IsPlaceIn source.now result }
         ensures offset { result.offset ≡ self.offset + 1 }
     {
-        let byte = source[self.offset];
         let offset = self.offset + 1;
-        if byte == b'\n' {
-            return SourcePosition {
+        if is_continuation(source[self.offset]) {
+            SourcePosition { offset, ..self }
+        } else {
+            SourcePosition {
                 offset,
-                line_start: offset,
-                line: self.line + 1,
-                column: 1,
-            };
-        }
-        if is_continuation(byte) {
-            return SourcePosition { offset, ..self };
-        }
-        SourcePosition {
-            offset,
-            column: self.column + 1,
-            ..self
+                column: self.column + 1,
+                ..self
+            }
         }
     }
 
