@@ -1,0 +1,8 @@
+-- What functions that write leave.
+use Rattle.std.specs.Prelude.{◌≡◌, ◌++◌, OnOk, Result, String, string_bytes}
+use Rattle.std.specs.Global.{Global}
+use Rattle.fluent_number.specs.Digits.{Text}
+
+-- unless memory ran out, a text was put after the one that was there
+abbrev pub Adds : {A E : Type 0} → Result A E → String Global → String Global → Text → Type 0
+Adds result old new text = OnOk result (string_bytes new ≡ string_bytes old ++ text)
