@@ -560,7 +560,7 @@ private:
 
 } // namespace detail
 
-// How a bundle is made. Change what you want: `fluent::settings plain; plain.isolating = false;`.
+// How a bundle is made. Change what you want: `fluent::settings("en-GB").with_isolating(false)`.
 struct settings {
     settings() = default;
     // Those of a locale: a tag such as "pl" or "pt-PT". The empty one has the rules of English, and plain numbers.
@@ -578,6 +578,20 @@ struct settings {
     bool plain_numbers = false;
     // The budget of the stack in bytes, or 0 for the usual 1.5 MB: fluent_c.h says what it is for.
     std::size_t stack = 0;
+
+    // These settings with one that is another.
+    settings with_isolating(bool is) const { return with(&settings::isolating, is); }
+    settings with_overriding(bool is) const { return with(&settings::overriding, is); }
+    settings with_plain_numbers(bool is) const { return with(&settings::plain_numbers, is); }
+    settings with_stack(std::size_t bytes) const { return with(&settings::stack, bytes); }
+
+private:
+    template <class T>
+    settings with(T settings::*member, T other) const {
+        settings made(*this);
+        made.*member = other;
+        return made;
+    }
 };
 
 // The text of a message, and a line for each error in it. There is a text even if there are errors: an argument that is

@@ -32,7 +32,9 @@ class texts {
 public:
     explicit texts(const std::filesystem::path &folder)
         : texts_(fluent::localization::load(
-              folder, {"notes.ftl"}, fluent::system_languages(), "en", plain(), {{"USER", user}})) {}
+              folder, {"notes.ftl"}, fluent::system_languages(), "en",
+              // A terminal shows isolation marks on the screen. A window of a toolkit doesn't: there, leave them.
+              fluent::settings().with_isolating(false), {{"USER", user}})) {}
 
     template <class... Arguments>
     std::string operator()(std::string_view id, const Arguments &...arguments) const {
@@ -56,13 +58,6 @@ public:
     }
 
 private:
-    static fluent::settings plain() {
-        fluent::settings made;
-        // A terminal shows isolation marks on the screen. A window of a toolkit doesn't: there, leave them.
-        made.isolating = false;
-        return made;
-    }
-
     // A function that texts call.
     static fluent::value user(const fluent::call &) {
         const char *name = std::getenv("USER");

@@ -27,11 +27,7 @@ std::string joined(const std::vector<std::string> &lines) {
     return made;
 }
 
-fluent::settings without_marks(const char *locale) {
-    fluent::settings made(locale);
-    made.isolating = false;
-    return made;
-}
+fluent::settings without_marks(const char *locale) { return fluent::settings(locale).with_isolating(false); }
 
 void answers() {
     const fluent::bundle marked(source, "en");
@@ -83,9 +79,9 @@ void errors() {
     const fluent::bundle damaged("a = 1\nb\na = 2\n");
     SAME(damaged.errors().size(), 2u);
     SAME(damaged.format("a"), "1");
-    fluent::settings last;
-    last.overriding = true;
-    SAME(fluent::bundle("a = 1\na = 2\n", last).format("a"), "2");
+    SAME(fluent::bundle("a = 1\na = 2\n", fluent::settings().with_overriding(true)).format("a"), "2");
+    const fluent::bundle plain("a = { 1234.5 }\n", without_marks("de").with_plain_numbers(true).with_stack(2000000));
+    SAME(plain.format("a"), "1234.5");
     SAME(bundle.errors().size(), 0u);
 }
 

@@ -69,11 +69,7 @@ void added() {
     fluent::localization texts;
     SAME(texts.format("hello"), "hello");
     texts.add("de", {"hello = Hallo\nonly =\n    .title = Titel\n"});
-    texts.add("x-none", {"count = { $n }\n"}, [] {
-        fluent::settings made;
-        made.isolating = false;
-        return made;
-    }());
+    texts.add("x-none", {"count = { $n }\n"}, fluent::settings().with_isolating(false));
     texts.add("en", {"hello = Hello\nbye = Bye\nonly = Only\n"});
     SAME(texts.format("hello"), "Hallo");
     SAME(texts.try_format("bye")->locale, "en");
