@@ -52,7 +52,7 @@ pub struct FluentBundle<R = FluentResource, M = IntlLangMemoizer> {
     /// A number that no other bundle of the process has.
     number: u64,
     kept: OnceLock<Kept>,
-    /// The same with sources in which each value is shown by a call.
+    /// A bundle of the library over sources in which each value is shown by a call.
     showing: OnceLock<Kept>,
     /// What shows numbers with options, by these options.
     numbers: Mutex<HashMap<String, Kept>>,
@@ -131,7 +131,7 @@ impl<R: Borrow<FluentResource>> FluentBundle<R, IntlLangMemoizer> {
         }
     }
 
-    /// The same as [`FluentBundle::new`] if each locale is a tag of a language.
+    /// A bundle as [`FluentBundle::new`] makes it, if each locale is a tag of a language.
     ///
     /// A language without plural rules, such as Occitan, `oc`, has those of the root: every number is `other`.
     ///
