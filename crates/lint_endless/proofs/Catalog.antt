@@ -1,10 +1,9 @@
 -- The patterns of a catalog by their names, once those of an id more were added.
-use Rattle.std.proofs.Common.{◌≡◌, ◌∙◌, Bool, true, false, cond, ◌&&◌, ◌||◌, if◌then◌else◌, List, [], ◌∷◌, ◌++◌, Option, Some, None, refl, ap, sym, Bor}
+use Rattle.std.proofs.Common.{◌≡◌, ◌∙◌, Bool, true, false, ◌&&◌, ◌||◌, if◌then◌else◌, List, [], ◌∷◌, ◌++◌, Option, Some, None, refl, ap, sym}
 use Rattle.std.specs.List.{All, Contains}
-use Rattle.std.specs.Bool.{nat_eq}
 use Rattle.std.specs.Str.{bytes_eq}
-use Rattle.std.specs.Cmp.Lexicographic.{pointwise, same_text}
-use Rattle.std.specs.HashSet.{HashSet, contains, contains_by}
+use Rattle.std.specs.Cmp.Lexicographic.{same_text}
+use Rattle.std.specs.Prelude.{is_some}
 use Rattle.std.proofs.lemmas.List.Folds.{list_any-append}
 use Rattle.std.proofs.lemmas.List.Elements.{All-weaker, All-contains_itself}
 use Rattle.std.proofs.lemmas.Map.Views.{list_any-from_Contains}
@@ -18,7 +17,7 @@ use Rattle.fluent_errors.specs.Errors.{Unresolved}
 use Rattle.fluent_value.specs.Matching.{same_bool}
 use Rattle.lint_findings.specs.Endless.{all_patterns, meaning_patterns, is_pattern_among}
 use Rattle.lint_findings.proofs.FlawlessCatalogs.{at_value}
-use Rattle.lint_endless.specs.Holding.{or_else, own_pattern, target_pattern, entered, entered_among}
+use Rattle.lint_endless.specs.Holding.{or_else, own_pattern, target_pattern, entered, entered_among, IsWhole}
 use Rattle.lint_endless.proofs.Held.{or_none}
 
 or_false : (b : Bool) → (b || false) ≡ b
@@ -28,22 +27,6 @@ or_false false = refl
 -- whether an id is one of some, or this one
 pub among_more : (i : Text) (seen : List Text) (id : Text) → is_among i (seen ++ id ∷ []) ≡ (is_among i seen || bytes_eq id i)
 among_more i seen id = list_any-append (λ other. bytes_eq other i) seen (id ∷ []) ∙ ap (λ b. is_among i seen || b) (or_false (bytes_eq id i))
-
-or_cond : (b a : Bool) → cond b true a ≡ (a || b)
-or_cond true true = refl
-or_cond true false = refl
-or_cond false true = refl
-or_cond false false = refl
-
--- the ids that were seen, and this one
-pub seen_more : {S : Type 0} (old new : HashSet (Bor Text) S) (id : Bor Text) (seen : List Text) →
-    ((q : Bor Text) → contains (λ x y. pointwise nat_eq x.now y.now) new q ≡ cond (pointwise nat_eq id.now q.now) true (contains (λ x y. pointwise nat_eq x.now y.now) old q)) →
-    ((i : Text) → contains_by (λ k. bytes_eq i k.now) old ≡ is_among i seen) → (i : Text) → contains_by (λ k. bytes_eq i k.now) new ≡ is_among i (seen ++ id.now ∷ [])
-seen_more old new id seen updates were i =
-    updates (record { ref_ptr = (0, 0); now = i })
-    ∙ ap (λ b. cond (bytes_eq id.now i) true b) (were i)
-    ∙ or_cond (bytes_eq id.now i) (is_among i seen)
-    ∙ sym (among_more i seen id.now)
 
 there_pattern : (e : Unresolved) (o : Option Elements) → target_pattern (there_or e o) ≡ o
 there_pattern e None = refl
@@ -125,15 +108,17 @@ module _ (ids : Ids (Unit {0})) (seen : List Text) (id : Text) where
       sym (or_none (entered_among ids seen t i a))
       ∙ more_by None t i a (bytes_eq id i) refl (λ e. sym (at_id (λ j. entered ids t j a ≡ None) i e (none t a))) (λ e. refl)
 
-  -- an id that was seen
-  pub same_more : is_among id seen ≡ true → (t : Bool) (i : Text) (a : Option Text) → entered_among ids seen t i a ≡ entered_among ids (seen ++ id ∷ []) t i a
-  same_more there t i a = by (bytes_eq id i) refl
-    where
-      by : (c : Bool) → bytes_eq id i ≡ c → entered_among ids seen t i a ≡ entered_among ids (seen ++ id ∷ []) t i a
-      by true e =
-          let among : is_among i seen ≡ true = at_id (λ j. is_among j seen ≡ true) i e there in
-          ap (λ b. if b then entered ids t i a else None) among ∙ sym (among_true t i a (among_more i seen id ∙ ap (λ b. b || bytes_eq id i) among))
-      by false e = ap (λ b. if b then entered ids t i a else None) (sym (among_more i seen id ∙ ap (λ b. is_among i seen || b) e ∙ or_false (is_among i seen)))
+  -- if a pattern of this id is among those that were named, all are
+  whole_by : (s : Bool) (v : Option Elements) (as' : List t.Attribute) → ((a : Option Text) → own_pattern v as' a ≡ entered ids s id a) → (c : Bool) (a b : Option Text) →
+      is_some (if c then entered ids s id a else None) ≡ true → or_else (if c then entered ids s id b else None) (own_pattern v as' b) ≡ (if c then entered ids s id b else None)
+  whole_by s v as' own true a b e = ap (or_else (entered ids s id b)) (own b) ∙ twice true (entered ids s id b)
+  whole_by s v as' own false a b e = absurd cc
+
+  pub message_whole : (m : t.Message) → find ids id ≡ Some (message m) → IsWhole false id m.value m.attributes (entered_among ids seen)
+  message_whole m found a b = whole_by false m.value m.attributes (message_own m (find ids id) found) (is_among id seen) a b
+
+  pub term_whole : (m : t.Term) → find ids id ≡ Some (term m) → IsWhole true id (Some m.value) m.attributes (entered_among ids seen)
+  term_whole m found a b = whole_by true (Some m.value) m.attributes (term_own m (find ids id) found) (is_among id seen) a b
 
 -- the patterns of what is found are among those of the ids
 pub found_known : (ids : Ids (Unit {0})) (id : Text) (m : Meaning (Unit {0})) → find ids id ≡ Some m → All (λ es. is_pattern_among es (all_patterns ids) ≡ true) (meaning_patterns m)

@@ -5,6 +5,7 @@ use Rattle.std.specs.Cmp.Lexicographic.{same_text}
 use Rattle.std.proofs.lemmas.List.Elements.{All-nil, All-cons, All-append}
 use Rattle.std.proofs.lemmas.List.{map-append}
 use Rattle.std.specs.Prelude.{is_some}
+use Rattle.std.specs.Option.{unwrap_or}
 use Rattle.fluent_ast.specs.Borrowed.{elements_of}
 use Rattle.fluent_grammar.specs.Words.{Text}
 use Rattle.fluent_grammar.specs.Tree.{Elements}
@@ -23,7 +24,7 @@ second_of_both : (a b : Bool) → (a && b) ≡ true → b ≡ true
 second_of_both true b e = e
 second_of_both false b e = absurd cc
 
-bools_are : (s t : Bool) → same_bool s t ≡ true → s ≡ t
+pub bools_are : (s t : Bool) → same_bool s t ≡ true → s ≡ t
 bools_are true true e = refl
 bools_are true false e = absurd cc
 bools_are false true e = absurd cc
@@ -71,17 +72,25 @@ one_longer (p ∷ ps) es = let rest = one_longer ps es in omega arith
 
 module _ (others : List Elements) (ps : List Elements) (named : Named) (s : Bool) (j : Text) (b : Option Text) (es : Elements) where
   -- the names have a pattern already
-  module _ (indices : Indices) (v : ℕ) (holds : Holds others indices ps named) (is : index_of indices s j b ≡ Some v) where
+  module _ (old new : Indices) (v : ℕ) (holds : Holds others old ps named) (is : index_of old s j b ≡ Some v) (gets : GetsIndex old new s j b v) where
+    found_by : (t : Bool) (i : Text) (a : Option Text) → same_names s j b t i a ≡ true → index_of old t i a ≡ Some v
+    found_by t i a e = names_are (λ t' i' a'. index_of old t' i' a' ≡ Some v) s j b t i a e is
+
     there_by : (t : Bool) (i : Text) (a : Option Text) (c : Bool) → same_names s j b t i a ≡ c → named t i a ≡ or_else (named t i a) (if c then Some es else None)
-    there_by t i a true e =
-        let found : index_of indices t i a ≡ Some v = names_are (λ t' i' a'. index_of indices t' i' a' ≡ Some v) s j b t i a e is in
-        some_stays v ps (index_of indices t i a) (named t i a) (Some es) found (holds.at t i a)
+    there_by t i a true e = some_stays v ps (index_of old t i a) (named t i a) (Some es) (found_by t i a e) (holds.at t i a)
     there_by t i a false e = sym (or_none (named t i a))
 
-    pub already : Holds others indices ps (with_pattern s j b es named)
+    same_by : (t : Bool) (i : Text) (a : Option Text) (c : Bool) → same_names s j b t i a ≡ c → (if c then Some v else index_of old t i a) ≡ index_of old t i a
+    same_by t i a true e = sym (found_by t i a e)
+    same_by t i a false e = refl
+
+    same : (t : Bool) (i : Text) (a : Option Text) → index_of new t i a ≡ index_of old t i a
+    same t i a = gets t i a ∙ same_by t i a (same_names s j b t i a) refl
+
+    pub already : Holds others new ps (with_pattern s j b es named)
     already = record {
-      within = holds.within;
-      at = λ t i a. holds.at t i a ∙ there_by t i a (same_names s j b t i a) refl;
+      within = λ t i a w found. holds.within t i a w (sym (same t i a) ∙ found);
+      at = λ t i a. ap (option_map (pattern_at ps)) (same t i a) ∙ holds.at t i a ∙ there_by t i a (same_names s j b t i a) refl;
       known = holds.known;
     }
 
@@ -112,10 +121,17 @@ module _ (others : List Elements) (ps : List Elements) (named : Named) (s : Bool
 pub pushed : (xs zs : List EnteredPattern) (p : EnteredPattern) → zs ≡ xs ++ p ∷ [] → patterns_of zs ≡ patterns_of xs ++ elements_of p.pattern.now ∷ []
 pushed xs zs p is = ap patterns_of is ∙ map-append (λ (q : EnteredPattern). elements_of q.pattern.now) xs (p ∷ [])
 
-pub none_from : (o : Option ℕ) → is_some o ≡ false → o ≡ None
-none_from None e = refl
-none_from (Some v) e = absurd cc
+-- the names were new if they got the index after all others
+pub new_names : (o : Option ℕ) (n found : ℕ) → ((v : ℕ) → o ≡ Some v → v < n) → found ≡ unwrap_or o n → found ≡ n → o ≡ None
+new_names None n found below is last = refl
+new_names (Some v) n found below is last = absurd (let inside : v < n = below v refl in let here : found ≡ v = is in omega (arith, inside, here, last))
 
-pub some_from : (o : Option ℕ) → is_some o ≡ true → (v : ℕ) × (o ≡ Some v)
-some_from None e = absurd cc
-some_from (Some v) e = (v, refl)
+-- and otherwise they weren't
+pub known_names : (o : Option ℕ) (n found : ℕ) → found ≡ unwrap_or o n → (found ≡ n → ⊥) → o ≡ Some found
+known_names None n found is apart = absurd (apart is)
+known_names (Some v) n found is apart = ap Some (sym is)
+
+-- an index has a pattern
+pub has_pattern : (ps : List Elements) (o : Option ℕ) (p : Option Elements) → option_map (pattern_at ps) o ≡ p → is_some o ≡ true → is_some p ≡ true
+has_pattern ps None p at e = absurd cc
+has_pattern ps (Some v) p at e = ap is_some (sym at)

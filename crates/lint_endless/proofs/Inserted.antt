@@ -73,3 +73,17 @@ inserted m n s id x index updates t i a =
     ∙ updates query
     ∙ ap (λ b. cond b (Some index) (get_by (same_key query) m)) (put_key s id x t i a)
     ∙ ap (λ o. if same_names s id.now (attribute_text x) t i a then Some index else o) (sym (same_found (is_key t i a) (same_key query) (asked_key t i a) m.entries))
+
+own_option : (x y : Option (Bor Text)) → option_eq same_lent (option_map lent (attribute_text x)) y ≡ option_eq same_lent x y
+own_option None None = refl
+own_option None (Some y) = refl
+own_option (Some x) None = refl
+own_option (Some x) (Some y) = refl
+
+own_key : (s : Bool) (id : Bor Text) (x : Option (Bor Text)) (k : Key) → is_key s id.now (attribute_text x) k ≡ same_key (s, id, x) k
+own_key s id x k = asked_key s id.now (attribute_text x) k ∙ ap (λ b. (ghosts.eq s k.0 && same_lent id k.1) && b) (own_option x k.2)
+
+-- what is found by a key, and by its names
+pub own_found : {S : Type 0} (m : HashMap Key ℕ S) (s : Bool) (id : Bor Text) (x : Option (Bor Text)) →
+    get same_key m (s, id, x) ≡ get_by (is_key s id.now (attribute_text x)) m
+own_found m s id x = sym (same_found (is_key s id.now (attribute_text x)) (same_key (s, id, x)) (own_key s id x) m.entries)

@@ -1,7 +1,9 @@
 -- A list of patterns by their names, once those of an entry were added.
 use Rattle.std.proofs.Common.{◌≡◌, ◌∙◌, ℕ, ◌+◌, ◌<◌, Bor, take, Bool, true, false, ◌&&◌, if◌then◌else◌, List, [], ◌∷◌, ◌++◌, length, map, Option, Some, None, refl, ap, sym, arith, get_or}
 use Rattle.std.specs.List.{All}
+use Rattle.std.specs.Prelude.{is_some, not}
 use Rattle.std.specs.Str.{bytes_eq}
+use Rattle.std.specs.Cmp.Lexicographic.{same_text}
 use Rattle.std.specs.Option.{option_to_list}
 use Rattle.std.proofs.lemmas.List.{get_or-map, length-map, map_more}
 use Rattle.std.proofs.lemmas.List.Elements.{All-head}
@@ -13,9 +15,11 @@ use Rattle.fluent_grammar.specs.Tree as t
 use Rattle.fluent_grammar.specs.Tree.{Elements}
 use Rattle.fluent_meaning.specs.Ids.{attribute_named}
 use Rattle.fluent_value.specs.Matching.{same_bool}
+use Rattle.lint_endless.specs.declared.entered.EnteredPatterns.{EnteredPatterns}
 use Rattle.lint_endless.specs.declared.indices.Indices.{Indices}
-use Rattle.lint_endless.specs.Holding.{Named, Holds, or_else, with_pattern, with_entry}
-use Rattle.lint_endless.proofs.Held.{or_none}
+use Rattle.lint_endless.specs.IndicesView.{same_names}
+use Rattle.lint_endless.specs.Holding.{Named, Holds, IsListed, IsWhole, has_first, or_else, own_pattern, with_pattern, with_entry}
+use Rattle.lint_endless.proofs.Held.{bools_are, names_are, or_none}
 
 -- the same names may be given in another way
 pub renamed : (others : List Elements) (indices : Indices) (ps : List Elements) (named other : Named) → ((t : Bool) (i : Text) (a : Option Text) → named t i a ≡ other t i a) → Holds others indices ps named → Holds others indices ps other
@@ -73,6 +77,43 @@ module _ (s : Bool) (j : Text) (named : Named) where
       with_pattern s j (Some x.id) x.value (with_entry s j value as' named) t i a ≡ with_entry s j value (as' ++ x ∷ []) named t i a
   attribute_more value as' x t i None = more_by (same_bool s t) (bytes_eq j i) false (named t i None) value value x.value (sym (or_none value))
   attribute_more value as' x t i (Some y) = more_by (same_bool s t) (bytes_eq j i) (bytes_eq x.id y) (named t i (Some y)) (attribute_named y as') (attribute_named y (as' ++ x ∷ [])) x.value (named_more y as' x)
+
+-- ---- an entry of which a pattern is there
+
+module _ (s : Bool) (j : Text) (v : Option Elements) (as' : List t.Attribute) (named : Named) (whole : IsWhole s j v as' named) (a : Option Text) (there : is_some (named s j a) ≡ true) where
+  stays_by : (t : Bool) (i : Text) (b : Option Text) (c d : Bool) → same_bool s t ≡ c → bytes_eq j i ≡ d → named t i b ≡ or_else (named t i b) (if c && d then own_pattern v as' b else None)
+  stays_by t i b true true k e =
+      let kinds : s ≡ t = bools_are s t k in
+      let ids : j ≡ i = same_text j i (sym e) in
+      rw (← kinds, ← ids) (sym (whole a b there))
+  stays_by t i b true false k e = sym (or_none (named t i b))
+  stays_by t i b false d k e = sym (or_none (named t i b))
+
+  stays : (t : Bool) (i : Text) (b : Option Text) → named t i b ≡ with_entry s j v as' named t i b
+  stays t i b = stays_by t i b (same_bool s t) (bytes_eq j i) refl refl
+
+  value_stays_by : (es : Elements) → v ≡ Some es → (t : Bool) (i : Text) (b : Option Text) (c : Bool) → same_names s j None t i b ≡ c → or_else (named t i b) (if c then Some es else None) ≡ named t i b
+  value_stays_by es is t i b true e =
+      let at : or_else (named s j None) (Some es) ≡ named s j None = ap (or_else (named s j None)) (sym is) ∙ whole a None there in
+      names_are (λ t' i' b'. or_else (named t' i' b') (Some es) ≡ named t' i' b') s j None t i b e at
+  value_stays_by es is t i b false e = or_none (named t i b)
+
+  module _ (others : List Elements) (indices : Indices) (ps : List Elements) where
+    pub all_there : Holds others indices ps named → Holds others indices ps (with_entry s j v as' named)
+    all_there = renamed others indices ps named (with_entry s j v as' named) stays
+
+    pub value_there : (es : Elements) → v ≡ Some es → Holds others indices ps (with_pattern s j None es named) → Holds others indices ps (with_entry s j v as' named)
+    value_there es is =
+        renamed others indices ps (with_pattern s j None es named) (with_entry s j v as' named)
+        (λ t i b. value_stays_by es is t i b (same_names s j None t i b) refl ∙ stays t i b)
+
+pub not_new : (b : Bool) → not b ≡ true → b ≡ false
+not_new true e = absurd cc
+not_new false e = refl
+
+pub first_listed : (found : EnteredPatterns) (s : Bool) (j : Text) (as' : List t.Attribute) → has_first found s j as' ≡ true → IsListed found s j
+first_listed found s j [] e = absurd cc
+first_listed found s j (x ∷ xs) e = (Some x.id, e)
 
 -- ---- the loop over the attributes
 

@@ -15,4 +15,4 @@ module _ (ids : Ids (Unit {0})) (seen : List Text) (others : (t : Bool) (i : Tex
   pub whole : (found : EnteredPatterns) → HasPatternsOf ids found seen → Holds (all_patterns ids) found.indices (patterns_of found.patterns.items) (entered ids)
   whole found has =
       renamed (all_patterns ids) found.indices (patterns_of found.patterns.items) (entered_among ids seen) (entered ids)
-      (λ t i a. all_by (is_among i seen) t i a refl) has.holds
+      (λ t i a. all_by (is_among i seen) t i a refl) has

@@ -1,9 +1,8 @@
 -- The patterns that are listed, by the names of the references that enter them.
-use Rattle.std.specs.Prelude.{◌≡◌, ℕ, ◌<◌, Bool, true, false, ◌&&◌, if◌then◌else◌, List, ◌++◌, length, map, All, Option, Some, None, option_map}
+use Rattle.std.specs.Prelude.{◌≡◌, ℕ, ◌<◌, Bool, true, false, ◌&&◌, if◌then◌else◌, List, [], ◌∷◌, ◌++◌, length, map, All, Option, Some, None, is_some, option_map}
 use Rattle.std.specs.List.{slice_index_or, flat_map}
 use Rattle.std.specs.Option.{option_to_list}
 use Rattle.std.specs.Str.{bytes_eq}
-use Rattle.std.specs.HashSet.{contains_by}
 use denote.Ref.{Bor}
 use Rattle.fluent_ast.specs.Borrowed.{attributes_of, elements_found, elements_of}
 use Rattle.fluent_ast.specs.declared.Attribute.{Attribute}
@@ -53,6 +52,11 @@ abbrev pub with_entry : Bool → Text → Option Elements → List t.Attribute �
 with_entry is_term id value attributes named =
     λ t i a. or_else (named t i a) (if same_bool is_term t && bytes_eq id i then own_pattern value attributes a else None)
 
+-- if any pattern of this entry is named, all are
+abbrev pub IsWhole : Bool → Text → Option Elements → List t.Attribute → Named → Type 0
+IsWhole is_term id value attributes named = (a b : Option Text) → is_some (named is_term id a) ≡ true →
+    or_else (named is_term id b) (own_pattern value attributes b) ≡ named is_term id b
+
 -- ---- of a catalog
 
 abbrev pub target_pattern : Target → Option Elements
@@ -76,9 +80,17 @@ abbrev pub patterns_of : List EnteredPattern → List Elements
 patterns_of ps = map (λ p. elements_of p.pattern.now) ps
 
 -- The patterns of a catalog are listed that references to these ids enter.
-pub record HasPatternsOf (ids : Ids (Unit {0})) (found : EnteredPatterns) (seen : List Text) : Type 0 where
-  pub seen_ids : (i : Text) → contains_by (λ k. bytes_eq i k.now) found.seen ≡ is_among i seen
-  pub holds : Holds (all_patterns ids) found.indices (patterns_of found.patterns.items) (entered_among ids seen)
+abbrev pub HasPatternsOf : Ids (Unit {0}) → EnteredPatterns → List Text → Type 0
+HasPatternsOf ids found seen = Holds (all_patterns ids) found.indices (patterns_of found.patterns.items) (entered_among ids seen)
+
+-- a pattern of this entry is listed
+abbrev pub IsListed : EnteredPatterns → Bool → Text → Type 0
+IsListed found is_term id = (a : Option Text) × (is_some (index_of found.indices is_term id a) ≡ true)
+
+-- whether the first of these attributes is
+abbrev pub has_first : EnteredPatterns → Bool → Text → List t.Attribute → Bool
+has_first found is_term id [] = false
+has_first found is_term id (a ∷ as') = is_some (index_of found.indices is_term id (Some a.id))
 
 -- what a list holds once a pattern was added
 abbrev pub GetsPattern : EnteredPatterns → EnteredPatterns → Bool → Text → Option Text → Elements → Type 0
@@ -89,7 +101,7 @@ GetsPattern old new is_term id attribute es = (others : List Elements) (named : 
 -- what a list holds once an entry was added
 abbrev pub GetsEntry : EnteredPatterns → EnteredPatterns → Bool → Text → Option Elements → List t.Attribute → Type 0
 GetsEntry old new is_term id value attributes = (others : List Elements) (named : Named) →
-    Holds others old.indices (patterns_of old.patterns.items) named →
+    Holds others old.indices (patterns_of old.patterns.items) named → IsWhole is_term id value attributes named →
     All (λ es. is_pattern_among es others ≡ true) (option_to_list value ++ map (λ (a : t.Attribute). a.value) attributes) →
     Holds others new.indices (patterns_of new.patterns.items) (with_entry is_term id value attributes named)
 

@@ -1,6 +1,7 @@
 -- What indices are to contracts.
 use Rattle.std.specs.Prelude.{◌≡◌, ℕ, Bool, ◌&&◌, if◌then◌else◌, Option, Some, option_map}
 use Rattle.std.specs.HashMap.{get_by}
+use Rattle.std.specs.Option.{unwrap_or}
 use Rattle.std.specs.Str.{bytes_eq}
 use denote.Ref.{Bor}
 use Rattle.fluent_grammar.specs.Words.{Text}
@@ -17,6 +18,10 @@ is_key is_term id attribute k = same_bool is_term k.0 && (bytes_eq id k.1.now &&
 -- the index of these names
 abbrev pub index_of : Indices → Bool → Text → Option Text → Option ℕ
 index_of indices is_term id attribute = get_by (is_key is_term id attribute) indices.by_name
+
+-- or this one, if they have none
+abbrev pub index_or : Indices → Bool → Text → Option Text → ℕ → ℕ
+index_or indices is_term id attribute index = unwrap_or (index_of indices is_term id attribute) index
 
 -- whether two have the same names
 abbrev pub same_names : Bool → Text → Option Text → Bool → Text → Option Text → Bool

@@ -1,10 +1,10 @@
 //! The patterns of a catalog that references enter.
 #![tactic(auto)]
 
-ghost use Rattle.std.specs.Prelude.{◌≡◌, [], ◌∷◌, IfOk, OnOk};
-ghost use Rattle.fluent_ast.specs.Borrowed.{entries_of};
+ghost use Rattle.std.specs.Prelude.{◌≡◌, [], ◌∷◌, IfOk, OnOk, false};
+ghost use Rattle.fluent_ast.specs.Borrowed.{attributes_of, entries_of};
 ghost use Rattle.lint_endless.specs.Catalog.{ids_of_trees};
-ghost use Rattle.lint_endless.specs.Holding.{GetsEntryOf, GetsIds, GetsPatternOf, HasPatternsOf, declared_ids};
+ghost use Rattle.lint_endless.specs.Holding.{GetsEntryOf, GetsIds, GetsPatternOf, HasPatternsOf, IsListed, declared_ids, has_first};
 ghost use Rattle.fluent_ids.specs.IdsView.{ids_view};
 
 use crate::indices::Indices;
@@ -13,7 +13,6 @@ use fluent_ids::Entry;
 use lint_finding::CatalogIds;
 use lint_nodes::declared_id;
 use std::alloc::{AllocError, Global};
-use std::collections::HashSet;
 
 /// A pattern that references enter.
 #[derive(Clone, Copy)]
@@ -36,8 +35,6 @@ pub struct EnteredPatterns<'r, 's> {
     pub indices: Indices<'s>,
     /// The list.
     pub patterns: Vec<EnteredPattern<'r, 's>>,
-    /// The ids that were looked at.
-    seen: HashSet<&'s str>,
 }
 
 impl<'r, 's> EnteredPatterns<'r, 's> {
@@ -48,7 +45,6 @@ impl<'r, 's> EnteredPatterns<'r, 's> {
         EnteredPatterns {
             indices: Indices::new(alloc),
             patterns: Vec::new(alloc),
-            seen: HashSet::new(alloc),
         }
     }
 
@@ -96,9 +92,6 @@ impl<'r, 's> EnteredPatterns<'r, 's> {
     fn add(&mut self, ids: &CatalogIds<'r, 's>, id: &'s str) -> Result<(), AllocError>
         ensures { OnOk result (GetsIds (ids_view _ ids.now) self.old self.new (id.now ∷ [])) }
     {
-        if !self.seen.insert(id)? {
-            return Ok(());
-        }
         match ids.get(id) {
             Some(Entry::Message((_, message))) => {
                 self.add_entry(false, id, message.value.as_ref(), &message.attributes)
@@ -112,7 +105,8 @@ impl<'r, 's> EnteredPatterns<'r, 's> {
         }
     }
 
-    /// Adds the patterns of an entry with this value and these attributes.
+    /// Adds the patterns of an entry with this value and these attributes, unless its first one is
+    /// there: then the others are, too.
     fn add_entry(
         &mut self,
         is_term: bool,
@@ -120,12 +114,14 @@ impl<'r, 's> EnteredPatterns<'r, 's> {
         value: Option<&'r Pattern<&'s str>>,
         attributes: &'r [Attribute<&'s str>],
     ) -> Result<(), AllocError>
-        ensures patterns { OnOk result (GetsEntryOf self.old self.new is_term id.now value.entry
-            attributes.now) }
-        ensures seen { self.new.seen ≡ self.old.seen }
+        ensures { OnOk result (GetsEntryOf self.old self.new is_term id.now value.entry attributes.now) }
     {
-        if let Some(value) = value {
-            self.add_pattern(is_term, id, None, value)?;
+        let is_listed = match value {
+            Some(value) => !self.add_pattern(is_term, id, None, value)?,
+            None => self.has_first(is_term, id, attributes),
+        };
+        if is_listed {
+            return Ok(());
         }
         for attribute in attributes {
             self.add_pattern(is_term, id, Some(attribute.id.name), &attribute.value)?;
@@ -133,22 +129,34 @@ impl<'r, 's> EnteredPatterns<'r, 's> {
         Ok(())
     }
 
-    /// Adds a pattern, if its names are new.
+    /// Whether the first of the attributes of an entry is there.
+    fn has_first(&self, is_term: bool, id: &str, attributes: &[Attribute<&str>]) -> bool
+        ensures { result ≡ has_first self.now is_term id.now (attributes_of attributes.now) }
+    {
+        match attributes {
+            [first, ..] => self.indices.get(is_term, id, Some(first.id.name)).is_some(),
+            [] => false,
+        }
+    }
+
+    /// Adds a pattern, if its names are new. Returns whether they are.
     fn add_pattern(
         &mut self,
         is_term: bool,
         id: &'s str,
         attribute: Option<&'s str>,
         pattern: &'r Pattern<&'s str>,
-    ) -> Result<(), AllocError>
+    ) -> Result<bool, AllocError>
         ensures pattern { OnOk result (GetsPatternOf self.old self.new is_term id.now attribute.entry pattern.now) }
-        ensures seen { self.new.seen ≡ self.old.seen }
+        ensures listed { IfOk result (λ is_new. is_new ≡ false → IsListed self.old is_term id.now) }
     {
-        if self.indices.get(is_term, id, attribute).is_none() {
-            let index = self.patterns.len();
+        let index = self.patterns.len();
+        let found = self.indices.get_or_insert(is_term, id, attribute, index)?;
+        if found == index {
             self.patterns.push(EnteredPattern { pattern })?;
-            self.indices.insert(is_term, id, attribute, index)?;
+            Ok(true)
+        } else {
+            Ok(false)
         }
-        Ok(())
     }
 }

@@ -1,10 +1,10 @@
 //! Where patterns are in a list, by the names of a reference to them.
 #![tactic(auto)]
 
-ghost use Rattle.std.specs.Prelude.{◌≡◌, Bool, None, Option, OnOk, option_map};
+ghost use Rattle.std.specs.Prelude.{◌≡◌, Bool, IfOk, None, Option};
 ghost use Rattle.fluent_grammar.specs.Words.{Text};
 ghost use Rattle.fluent_ast.specs.Borrowed.{inline_of};
-ghost use Rattle.lint_endless.specs.IndicesView.{GetsIndex, index_of};
+ghost use Rattle.lint_endless.specs.IndicesView.{GetsIndex, attribute_text, index_of, index_or};
 ghost use Rattle.lint_endless.specs.ReferenceGraph.{node_index, reference_index};
 ghost use Rattle.lint_nodes.specs.NodeView.{node_view};
 
@@ -33,7 +33,7 @@ impl<'s> Indices<'s> {
 
     /// The index of these names, if there is one.
     pub fn get(&self, is_term: bool, id: &str, attribute: Option<&str>) -> Option<usize>
-        ensures { result ≡ index_of self.now is_term id.now (option_map (λ s. s.now) attribute.entry) }
+        ensures { result ≡ index_of self.now is_term id.now (attribute_text attribute.entry) }
     {
         self.by_name.get(&(is_term, id, attribute)).copied()
     }
@@ -63,21 +63,24 @@ impl<'s> Indices<'s> {
         }
     }
 
-    /// Puts an index under these names, instead of what was there.
+    /// Puts an index under these names, unless one is there. Returns the one that is there then.
     ///
     /// # Errors
     /// [`AllocError`] if memory runs out; nothing is put there.
-    pub fn insert(
+    pub fn get_or_insert(
         &mut self,
         is_term: bool,
         id: &'s str,
         attribute: Option<&'s str>,
         index: usize,
-    ) -> Result<(), AllocError>
-        ensures { OnOk result (GetsIndex self.old self.new is_term id.now
-            (option_map (λ s. s.now) attribute.entry) index) }
+    ) -> Result<usize, AllocError>
+        ensures found { IfOk result (λ found. found
+            ≡ index_or self.old is_term id.now (attribute_text attribute.entry) index) }
+        ensures put { IfOk result (λ found. GetsIndex self.old self.new is_term id.now
+            (attribute_text attribute.entry) found) }
     {
-        self.by_name.insert((is_term, id, attribute), index)?;
-        Ok(())
+        let names = (is_term, id, attribute);
+        let found = self.by_name.entry(names)?.or_insert(index);
+        Ok(*found)
     }
 }

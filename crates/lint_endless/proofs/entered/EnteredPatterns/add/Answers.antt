@@ -1,8 +1,6 @@
 use Rattle.std.proofs.Common.{◌≡◌, ◌∙◌, ◌++◌, [], ◌∷◌, refl, ap, sym, subst, Bool, Some, None, true, false, List, Option, Bor}
 use Rattle.std.proofs.lemmas.Result.{on_ok_weaker}
 use Rattle.std.specs.Option.{option_map, option_copied}
-use Rattle.std.specs.Str.{bytes_eq}
-use Rattle.std.specs.HashSet.{contains_by}
 use Rattle.fluent_ast.specs.Borrowed.{message_of, term_of, elements_of, elements_found, attributes_of}
 use Rattle.fluent_ast.specs.declared.Pattern.{Pattern}
 use Rattle.fluent_grammar.specs.Tree as t
@@ -12,10 +10,9 @@ use Rattle.fluent_ids.specs.EntryView.{meaning_of}
 use Rattle.fluent_ids.specs.IdsView.{ids_view}
 use Rattle.fluent_meaning.specs.Ids.{Ids, Meaning, find, message, term, function, number_function}
 use Rattle.lint_findings.specs.Endless.{all_patterns}
-use Rattle.lint_endless.specs.declared.entered.EnteredPatterns.{EnteredPatterns}
 use Rattle.lint_endless.specs.Holding.{GetsEntry, patterns_of, entered, entered_among, with_entry}
 use Rattle.lint_endless.proofs.Owned.{renamed}
-use Rattle.lint_endless.proofs.Catalog.{seen_more, message_more, term_more, none_more, found_known}
+use Rattle.lint_endless.proofs.Catalog.{message_more, message_whole, term_more, term_whole, none_more, found_known}
 use Rattle.lint_endless.proofs.entered.EnteredPatterns.add.Goals as goal
 
 found_copied : (o : Option (Bor (Pattern (Bor Text)))) → elements_found o ≡ option_map elements_of (option_copied o)
@@ -46,16 +43,13 @@ returns-in-Some-Message c =
     sym c.get.ensures ∙ ap (λ o. option_map (meaning_of (Unit {0})) (option_copied o)) c.in-Some-Message.is ∙ ap (λ e. Some (meaning_of (Unit {0}) e)) c.in-Some-Message.field-0-is in
     let value : elements_found c.as_ref.result ≡ m.value = found_copied c.as_ref.result ∙ ap (option_map elements_of) c.as_ref.ensures.value in
     let attributes : attributes_of c.deref.result.now ≡ m.attributes = ap attributes_of c.deref.ensures.value in
-    let Then : EnteredPatterns → Option Elements → List t.Attribute → Type 0 = λ new v as'. GetsEntry (record { indices = old.indices; patterns = old.patterns; seen = c.insert.new.self }) new false id v as' in
+    let Then : Option Elements → List t.Attribute → Type 0 = λ v as'. GetsEntry old c.add_entry.new.self false id v as' in
     on_ok_weaker c.add_entry.result
-    (λ (gets : Then c.add_entry.new.self (elements_found c.as_ref.result) (attributes_of c.deref.result.now)) seen has.
-    let own : Then c.add_entry.new.self m.value m.attributes = subst (λ as'. Then c.add_entry.new.self m.value as') attributes (subst (λ v. Then c.add_entry.new.self v (attributes_of c.deref.result.now)) value gets) in
-    record {
-      seen_ids = λ i. ap (λ s. contains_by (λ k. bytes_eq i k.now) s) c.add_entry.ensures.seen ∙ seen_more old.seen c.insert.new.self c.args.id seen c.in_ok-insert.ensures.updates.0 has.seen_ids i;
-      holds = renamed (all_patterns ids) c.add_entry.new.self.indices (patterns_of c.add_entry.new.self.patterns.items) (with_entry false id m.value m.attributes (entered_among ids seen)) (entered_among ids (seen ++ id ∷ []))
-          (message_more ids seen id m found) (own (all_patterns ids) (entered_among ids seen) has.holds (found_known ids id meaning found));
-    })
-    c.add_entry.ensures.patterns
+    (λ (gets : Then (elements_found c.as_ref.result) (attributes_of c.deref.result.now)) seen has.
+    let own : Then m.value m.attributes = subst (λ as'. Then m.value as') attributes (subst (λ v. Then v (attributes_of c.deref.result.now)) value gets) in
+    renamed (all_patterns ids) c.add_entry.new.self.indices (patterns_of c.add_entry.new.self.patterns.items) (with_entry false id m.value m.attributes (entered_among ids seen)) (entered_among ids (seen ++ id ∷ []))
+    (message_more ids seen id m found) (own (all_patterns ids) (entered_among ids seen) has (message_whole ids seen id m found) (found_known ids id meaning found)))
+    c.add_entry.ensures
 
 pub returns-in-Some-Term : goal.returns-in-Some-Term
 returns-in-Some-Term c =
@@ -68,26 +62,20 @@ returns-in-Some-Term c =
     sym c.get.ensures ∙ ap (λ o. option_map (meaning_of (Unit {0})) (option_copied o)) c.in-Some-Term.is ∙ ap (λ e. Some (meaning_of (Unit {0}) e)) c.in-Some-Term.field-0-is in
     let new = c.add_entry-in-Some-Term.new.self in
     let attributes : attributes_of c.deref-in-Some-Term.result.now ≡ m.attributes = ap attributes_of c.deref-in-Some-Term.ensures.value in
-    let Then : List t.Attribute → Type 0 = λ as'. GetsEntry (record { indices = old.indices; patterns = old.patterns; seen = c.insert.new.self }) new true id (Some m.value) as' in
+    let Then : List t.Attribute → Type 0 = λ as'. GetsEntry old new true id (Some m.value) as' in
     on_ok_weaker c.add_entry-in-Some-Term.result
     (λ (gets : Then (attributes_of c.deref-in-Some-Term.result.now)) seen has.
     let own : Then m.attributes = subst Then attributes gets in
-    record {
-      seen_ids = λ i. ap (λ s. contains_by (λ k. bytes_eq i k.now) s) c.add_entry-in-Some-Term.ensures.seen ∙ seen_more old.seen c.insert.new.self c.args.id seen c.in_ok-insert.ensures.updates.0 has.seen_ids i;
-      holds = renamed (all_patterns ids) new.indices (patterns_of new.patterns.items) (with_entry true id (Some m.value) m.attributes (entered_among ids seen)) (entered_among ids (seen ++ id ∷ []))
-          (term_more ids seen id m found) (own (all_patterns ids) (entered_among ids seen) has.holds (found_known ids id meaning found));
-    })
-    c.add_entry-in-Some-Term.ensures.patterns
+    renamed (all_patterns ids) new.indices (patterns_of new.patterns.items) (with_entry true id (Some m.value) m.attributes (entered_among ids seen)) (entered_among ids (seen ++ id ∷ []))
+    (term_more ids seen id m found) (own (all_patterns ids) (entered_among ids seen) has (term_whole ids seen id m found) (found_known ids id meaning found)))
+    c.add_entry-in-Some-Term.ensures
 
 pub returns-in-None : goal.returns-in-None
 returns-in-None c = λ seen has.
     let ids = ids_view (Unit {0}) c.args.ids.now in
     let old = c.args.self.now in
     let found : find ids c.args.id.now ≡ None = sym c.get.ensures ∙ ap (λ o. option_map (meaning_of (Unit {0})) (option_copied o)) c.in-None.is in
-    record {
-      seen_ids = seen_more old.seen c.insert.new.self c.args.id seen c.in_ok-insert.ensures.updates.0 has.seen_ids;
-      holds = renamed (all_patterns ids) old.indices (patterns_of old.patterns.items) (entered_among ids seen) (entered_among ids (seen ++ c.args.id.now ∷ [])) (none_more ids seen c.args.id.now (nothing ids c.args.id.now found)) has.holds;
-    }
+    renamed (all_patterns ids) old.indices (patterns_of old.patterns.items) (entered_among ids seen) (entered_among ids (seen ++ c.args.id.now ∷ [])) (none_more ids seen c.args.id.now (nothing ids c.args.id.now found)) has
 
 pub returns-in-Some-Function : goal.returns-in-Some-Function
 returns-in-Some-Function c = λ seen has.
@@ -96,10 +84,7 @@ returns-in-Some-Function c = λ seen has.
     let meaning : Meaning (Unit {0}) = function c.in-Some-Function.field-0-0 in
     let found : find ids c.args.id.now ≡ Some meaning =
     sym c.get.ensures ∙ ap (λ o. option_map (meaning_of (Unit {0})) (option_copied o)) c.in-Some-Function.is ∙ ap (λ e. Some (meaning_of (Unit {0}) e)) c.in-Some-Function.field-0-is in
-    record {
-      seen_ids = seen_more old.seen c.insert.new.self c.args.id seen c.in_ok-insert.ensures.updates.0 has.seen_ids;
-      holds = renamed (all_patterns ids) old.indices (patterns_of old.patterns.items) (entered_among ids seen) (entered_among ids (seen ++ c.args.id.now ∷ [])) (none_more ids seen c.args.id.now (a_function ids c.args.id.now c.in-Some-Function.field-0-0 found)) has.holds;
-    }
+    renamed (all_patterns ids) old.indices (patterns_of old.patterns.items) (entered_among ids seen) (entered_among ids (seen ++ c.args.id.now ∷ [])) (none_more ids seen c.args.id.now (a_function ids c.args.id.now c.in-Some-Function.field-0-0 found)) has
 
 pub returns-in-Some-Number : goal.returns-in-Some-Number
 returns-in-Some-Number c = λ seen has.
@@ -108,7 +93,4 @@ returns-in-Some-Number c = λ seen has.
     let meaning : Meaning (Unit {0}) = number_function in
     let found : find ids c.args.id.now ≡ Some meaning =
     sym c.get.ensures ∙ ap (λ o. option_map (meaning_of (Unit {0})) (option_copied o)) c.in-Some-Number.is ∙ ap (λ e. Some (meaning_of (Unit {0}) e)) c.in-Some-Number.field-0-is in
-    record {
-      seen_ids = seen_more old.seen c.insert.new.self c.args.id seen c.in_ok-insert.ensures.updates.0 has.seen_ids;
-      holds = renamed (all_patterns ids) old.indices (patterns_of old.patterns.items) (entered_among ids seen) (entered_among ids (seen ++ c.args.id.now ∷ [])) (none_more ids seen c.args.id.now (a_number ids c.args.id.now found)) has.holds;
-    }
+    renamed (all_patterns ids) old.indices (patterns_of old.patterns.items) (entered_among ids seen) (entered_among ids (seen ++ c.args.id.now ∷ [])) (none_more ids seen c.args.id.now (a_number ids c.args.id.now found)) has
