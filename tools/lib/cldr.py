@@ -9,5 +9,5 @@ def version(root: Path = ROOT) -> str:
 
 
 def data(part: str, root: Path = ROOT) -> Path:
-    """The folder of the data of `plurals`, `numbers` or `languages`."""
+    """The folder of the data of `plurals`, `numbers`, `dates` or `languages`."""
     return root / 'tools' / part / f'cldr-{version(root)}'

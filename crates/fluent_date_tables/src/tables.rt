@@ -1,0 +1,174 @@
+//! Rows of the tables, and how one is found.
+ghost use Rattle.std.specs.Prelude.{◌≡◌};
+ghost use Rattle.std.specs.Prelude.{slice_get};
+ghost use Rattle.fluent_date_tables.specs.Tables.{first_of, found, list_at, nows, or_else, tags_of};
+ghost use Rattle.fluent_date_tables.specs.Skeletons.{skeletons};
+ghost use Rattle.fluent_date_tables.specs.Rows.{rows};
+
+use crate::rows::ROWS;
+use crate::skeletons::SKELETONS;
+use fluent_date::HourCycle;
+use fluent_plurals::begins_with_tag;
+
+/// What fields are compared by, one number for each of the eleven places of fields; 0 if there is
+/// no such field.
+pub type Measures = [u16; 11];
+
+/// Fields that patterns are for.
+///
+/// ```no_run
+/// let day = skeleton.counts[4]; // 2 for `dd`
+/// ```
+#[derive(Clone, Copy)]
+pub struct Skeleton {
+    /// Whether CLDR gives patterns for these very fields.
+    pub given: bool,
+    /// How often the letter of each field is repeated.
+    pub counts: [u8; 11],
+    /// What each field is compared by.
+    pub measures: Measures,
+}
+
+/// The number of a skeleton, and that of a locale's pattern for it.
+///
+/// ```no_run
+/// let pattern = text_numbered(pair.pattern);
+/// ```
+#[derive(Clone, Copy)]
+pub struct Pair {
+    /// The number of the skeleton.
+    pub skeleton: u8,
+    /// The number of the text that is the pattern.
+    pub pattern: u16,
+}
+
+/// A tag, in small letters with `-` between its parts, and the number of its row.
+#[derive(Clone, Copy)]
+pub(crate) struct Tagged {
+    pub(crate) tag: &'static str,
+    pub(crate) row: u16,
+}
+
+/// What a locale writes dates by: mostly numbers of texts, and of lists of patterns.
+///
+/// ```no_run
+/// let long = text_numbered(row.dates[1]); // d. MMMM y
+/// ```
+#[derive(Clone, Copy)]
+pub struct Row {
+    /// The digits from 0 to 9.
+    pub digits: [char; 10],
+    /// How the locale counts hours.
+    pub cycle: HourCycle,
+    /// How it counts twelve hours.
+    pub twelve: HourCycle,
+    /// The sign before the digits of a second's fraction.
+    pub decimal: u16,
+    /// The names of month, day, hour, minute, second and part of the day.
+    pub fields: u16,
+    /// The patterns of dates, a list.
+    pub date_patterns: u16,
+    /// The patterns of times, a list.
+    pub time_patterns: u16,
+    /// For each hour its part of the day, a digit, or `-`; then a `1` if there is a name for noon.
+    /// It is empty if the locale has no parts of the day.
+    pub hours: u16,
+    /// How an offset is written: what is before and after it, the same for one ahead of UTC and for
+    /// a negative one, and what is between its numbers.
+    pub gmt: u16,
+    /// The names of UTC, short and long.
+    pub utc: u16,
+    /// The patterns of times: full, long, medium, short.
+    pub times: [u16; 4],
+    /// The patterns of dates: full, long, medium, short.
+    pub dates: [u16; 4],
+    /// How date and time are joined: full, long, medium, short.
+    pub glue: [u16; 4],
+    /// How era, year, month, weekday, day, hour, minute, second and zone are put to a pattern that
+    /// lacks them.
+    pub append: [u16; 9],
+    /// The names of months in a date: abbreviated, wide, narrow.
+    pub month: [u16; 3],
+    /// The names of months by themselves: abbreviated, wide, narrow.
+    pub own_month: [u16; 3],
+    /// The names of weekdays in a date, from Sunday: abbreviated, wide, narrow.
+    pub day: [u16; 3],
+    /// The names of weekdays by themselves, from Sunday: abbreviated, wide, narrow.
+    pub own_day: [u16; 3],
+    /// The names of the eras before and since the year 1: abbreviated, wide, narrow.
+    pub eras: [u16; 3],
+    /// The names of the halves of the day: abbreviated, wide, narrow.
+    pub halves: [u16; 3],
+    /// The names of the parts of the day: abbreviated, wide, narrow.
+    pub parts: [u16; 3],
+}
+
+/// The text of this number; the empty one if there is none.
+pub(crate) fn text_at(texts: &[&'static str], at: usize) -> &'static str
+    ensures { result.now ≡ list_at (nows texts.now) at }
+{
+    match texts.get(at) {
+        Some(text) => *text,
+        None => "",
+    }
+}
+
+/// The list of this number; the empty one if there is none.
+pub(crate) fn pairs_at(lists: &[&'static [Pair]], at: usize) -> &'static [Pair]
+    ensures { result.now ≡ list_at (nows lists.now) at }
+{
+    match lists.get(at) {
+        Some(list) => *list,
+        None => &[],
+    }
+}
+
+/// The skeleton of this number, if there is one.
+fn skeleton_at(skeletons: &[Skeleton], at: usize) -> Option<&Skeleton>
+    ensures { found result ≡ slice_get skeletons.now at }
+{
+    skeletons.get(at)
+}
+
+/// The row of this number, if there is one.
+fn row_at(rows: &[Row], at: usize) -> Option<&Row>
+    ensures { found result ≡ slice_get rows.now at }
+{
+    rows.get(at)
+}
+
+/// The skeleton of this number, if there is one.
+pub fn skeleton_numbered(number: usize) -> Option<&'static Skeleton>
+    ensures { found result ≡ slice_get skeletons number }
+{
+    skeleton_at(&SKELETONS, number)
+}
+
+/// The row of this number, if there is one.
+pub fn row_numbered(number: usize) -> Option<&'static Row>
+    ensures { found result ≡ slice_get rows number }
+{
+    row_at(&ROWS, number)
+}
+
+/// The row of the first of the tags that a text begins with.
+pub(crate) fn first_fitting(tags: &[Tagged], text: &[u8]) -> Option<u16>
+    ensures { result ≡ first_of (tags_of tags.now) text.now }
+{
+    for tagged in tags {
+        if begins_with_tag(tagged.tag.as_bytes(), text) {
+            return Some(tagged.row);
+        }
+    }
+    None
+}
+
+/// The first of two that is there.
+pub(crate) fn first_entry(first: Option<u16>, second: Option<u16>) -> Option<u16>
+    ensures { result ≡ or_else first second }
+{
+    match first {
+        Some(row) => Some(row),
+        None => second,
+    }
+}
