@@ -71,8 +71,21 @@ def called_of(functions: Functions, shows: Callable[[FluentNumber], str] | None 
     if shows:
         called.shows = shows
         called[SHOWN] = repr
-        called.setdefault(f"NUMBER{IS_SHOWN}", fluent_number)
+        called.setdefault(f"NUMBER{IS_SHOWN}", _number)
     return called
+
+
+def _number(value: Any = None, *_others: Any, **options: Any) -> Any:
+    """The library's `NUMBER`: it refuses no option, and has no value for what is no number."""
+    if not isinstance(value, (int, float, Decimal)):
+        return None
+    made = fluent_number(value)
+    for name, option in options.items():
+        try:
+            made = fluent_number(made, **{name: option})
+        except (TypeError, ValueError):
+            continue
+    return made
 
 
 class Answers:

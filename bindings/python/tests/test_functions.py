@@ -224,6 +224,10 @@ m = { NUMBER($n, minimumFractionDigits: 1) } { $gone }
                 self.assertEqual(bundle.format("a", n=fluent_number(0.25, style="percent"), gone="x").text[:11], "other 25\xa0% ")
         self.assertEqual(fluent_number(5) + 1, 6)
         self.assertIsInstance(fluent_number(5), int)
+        source = 'a = { NUMBER($n, type: "ordinal", style: "roman") } { NUMBER($x) } { NUMBER() }\n'
+        with Bundle(source, locale="en", isolating=False) as bundle:
+            for n, shown in [(5, "5"), (fluent_number(5, minimumIntegerDigits=2), "05")]:
+                self.assertEqual(bundle.format("a", n=n, x="x"), (f"{shown} NUMBER() NUMBER()", []))
 
     def test_functions_get_what_was_passed(self):
         day = datetime(2026, 11, 28, 12, 30)
