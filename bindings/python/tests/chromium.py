@@ -152,7 +152,11 @@ class Browser:
         )
 
     def theme(self, name):
-        self._call("Emulation.setEmulatedMedia", features=[{"name": "prefers-color-scheme", "value": name}])
+        self.media("prefers-color-scheme", name)
+
+    def media(self, name, value):
+        """Has the page see a value of a media feature."""
+        self._call("Emulation.setEmulatedMedia", features=[{"name": name, "value": value}])
 
     def picture(self, path, complete=False):
         """Takes a screenshot: of the window, or of the complete page."""

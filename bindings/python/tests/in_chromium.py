@@ -165,6 +165,18 @@ class PageTest(unittest.TestCase):
         self.browser.type("new = New\n")
         self.wait("[...document.querySelectorAll('#missing .go')].some((each) => each.textContent.includes('new'))")
 
+    def test_what_is_heard_and_seen_otherwise(self):
+        self.begin("unread = { $n ->\n    [one] One\n   *[other] { $n }\n}\n", locale="pl")
+        field = "document.querySelector('[data-variable=n]')"
+        self.assertEqual(self.browser.run(f"[{field}.ariaLabel, {field}.dir]"), ["$n, in unread", "auto"])
+        self.assertEqual(self.browser.run("document.getElementById('source').lang"), "pl")
+        # In forced colours the tile that is chosen has another border than the others.
+        self.browser.media("forced-colors", "active")
+        widths = "[...document.querySelectorAll('.cases > div')].map((each) => [each.className, getComputedStyle(each).borderTopWidth])"
+        for name, width in self.browser.run(widths):
+            self.assertEqual(width, "3px" if name == "chosen" else "1px")
+        self.browser.media("forced-colors", "none")
+
     def test_marks_are_made_visible(self):
         self.begin("a = b { $x }\n")
         self.assertEqual(self.texts(".mark"), [])

@@ -308,6 +308,10 @@ class ReadTest(unittest.TestCase):
                 path.write_text("a = b\n", encoding="utf-8")
             project = Project.read([Path(made)], [Path(made, "one.ftl")])
             self.assertEqual((list(project.files), list(project.references)), (["one.ftl"], ["one.ftl"]))
+            Path(made, "more").mkdir()
+            Path(made, "more/one.ftl").write_text("a = c\n", encoding="utf-8")
+            with self.assertRaisesRegex(ValueError, "have the same name"):
+                Project.read([Path(made), Path(made, "more")], [])
 
 
 class LookedAtTest(unittest.TestCase):

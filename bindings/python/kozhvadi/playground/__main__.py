@@ -39,7 +39,7 @@ settings = Settings
 
 
 def _words() -> argparse.Namespace:
-    parser = argparse.ArgumentParser(prog="python3 -m kozhvadi.playground", description=about)
+    parser = argparse.ArgumentParser(prog="kozhvadi-playground", description=about)
     parser.add_argument("path", nargs="*", type=Path, help="files that the page shows, or folders of them")
     parser.add_argument(
         "--reference", action="append", default=[], type=Path, help="the file or folder that they are a translation of"

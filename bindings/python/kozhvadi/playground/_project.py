@@ -24,7 +24,7 @@ class Project:
     @staticmethod
     def read(paths: Iterable[Path], references: Iterable[Path]) -> Project:
         """Reads files, and those below folders. Raises `OSError` if one can't be read, and `ValueError` if one isn't
-        UTF-8, or if there are none or too many."""
+        UTF-8, if two have one name, or if there are none or too many."""
         named, compared = _named(paths), _named(references)
         project = Project(named, _texts(named), _texts(compared))
         if len(project.files) == 1 == len(project.references):
@@ -33,8 +33,8 @@ class Project:
         return project
 
     def save(self, name: str, text: str) -> None:
-        """Replaces a file by a text. Raises `KeyError` if there is no such file, and `ValueError` if it has changed since
-        it was read."""
+        """Replaces a file by a text. Raises `KeyError` if there is no such file, and `ValueError` if it has changed
+        since it was read."""
         path = self.paths[name]
         if _text(path) != self.files[name]:
             raise ValueError(f"{name} has changed since the page was loaded: it isn't saved")
@@ -58,13 +58,17 @@ def _named(paths: Iterable[Path]) -> dict[str, Path]:
         if not path.is_dir():
             found.setdefault(str(path), path)
             continue
-        below = sorted(each for each in path.rglob("*.ftl") if each.is_file() and not _is_hidden(each.relative_to(path)))
+        listed = (each for each in path.rglob("*.ftl") if each.is_file() and not _is_hidden(each.relative_to(path)))
+        below = sorted(listed)
         if not below:
             raise ValueError(f"there is no .ftl file in {path}")
         if len(below) > _MOST:
             raise ValueError(f"{path} has more than {_MOST} files")
         for each in below:
-            found.setdefault(str(each.relative_to(path)), each)
+            name = str(each.relative_to(path))
+            if name in found:
+                raise ValueError(f"{found[name]} and {each} have the same name here: show one folder at a time")
+            found[name] = each
     return found
 
 

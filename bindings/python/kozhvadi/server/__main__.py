@@ -9,7 +9,7 @@ from ._server import serve
 
 
 def main() -> int:
-    parser = argparse.ArgumentParser(prog="python3 -m kozhvadi.server", description=about)
+    parser = argparse.ArgumentParser(prog="kozhvadi-server", description=about)
     parser.add_argument("--stdio", action="store_true", help="as it always does; some editors say so")
     parser.add_argument(
         "--utf-8", dest="counts_bytes", action="store_true", help="positions count bytes: for editors that do so unasked"
