@@ -1,10 +1,10 @@
 //! The ids of sources that were read, and of functions.
 
-ghost use Rattle.std.specs.Prelude.{◌≡◌, false, IfOk, OnOk};
-ghost use Rattle.fluent_meaning.specs.Ids.{function, number_pair, with_id, with_ids};
+ghost use Rattle.std.specs.Prelude.{◌≡◌, IfOk, OnOk};
+ghost use Rattle.fluent_meaning.specs.Ids.{with_ids};
 ghost use Rattle.fluent_calls.specs.DeskView.{by_id, ids_added, ids_with, plain_ids};
 
-use fluent_ids::{AddFunctionError, FluentIds};
+use fluent_ids::FluentIds;
 use fluent_resource::FluentResource;
 use std::alloc::{AllocError, Global};
 
@@ -25,7 +25,7 @@ pub(crate) fn ids_of<'r, 's>(
 {
     let mut ids = ids_of_resources(alloc, resources, overriding)?;
     for (place, name) in functions.iter().enumerate() {
-        add_function(&mut ids, name, place)?;
+        ids.add_function_silently(name, place)?;
     }
     Ok(ids)
 }
@@ -39,38 +39,11 @@ fn ids_of_resources<'r, 's>(
     ensures { IfOk result (λ ids. plain_ids ids ≡ ids_added overriding resources.now) }
 {
     let mut ids = FluentIds::new(alloc);
-    add_number(&mut ids)?;
+    ids.add_builtins_silently()?;
     for resource in resources {
         add(&mut ids, resource, overriding)?;
     }
     Ok(ids)
-}
-
-/// Adds `NUMBER`, unless its id stands for something.
-fn add_number(ids: &mut FluentIds<'_, '_, usize>) -> Result<(), AllocError>
-    ensures { OnOk result (plain_ids ids.new ≡ with_id false (plain_ids ids.old) number_pair) }
-{
-    match ids.add_builtins() {
-        Ok(()) => Ok(()),
-        Err(AddFunctionError::Overriding(_)) => Ok(()),
-        Err(AddFunctionError::Memory) => Err(AllocError),
-    }
-}
-
-/// Adds the function at a place among the names, unless its name stands for something.
-fn add_function(
-    ids: &mut FluentIds<'_, '_, usize>,
-    name: &str,
-    place: usize,
-) -> Result<(), AllocError>
-    ensures { OnOk result (plain_ids ids.new
-        ≡ with_id false (plain_ids ids.old) (name.now, function place)) }
-{
-    match ids.add_function(name, place) {
-        Ok(()) => Ok(()),
-        Err(AddFunctionError::Overriding(_)) => Ok(()),
-        Err(AddFunctionError::Memory) => Err(AllocError),
-    }
 }
 
 /// Adds the messages and terms of a resource.

@@ -1,11 +1,11 @@
 //! The ids of sources that were read.
 
-ghost use Rattle.std.specs.Prelude.{◌≡◌, false, IfOk, OnOk};
+ghost use Rattle.std.specs.Prelude.{◌≡◌, IfOk, OnOk};
 ghost use Rattle.fluent_run.specs.ResourceIds.{by_id};
-ghost use Rattle.fluent_meaning.specs.Ids.{number_pair, with_id, with_ids};
+ghost use Rattle.fluent_meaning.specs.Ids.{with_ids};
 ghost use Rattle.fluent_run.specs.DeskView.{ids_added, plain_ids};
 
-use fluent_ids::{AddFunctionError, FluentIds};
+use fluent_ids::FluentIds;
 use fluent_resource::FluentResource;
 use fluent_value::NoFunction;
 use std::alloc::{AllocError, Global};
@@ -23,22 +23,11 @@ pub(crate) fn ids_of<'r, 's>(
     ensures { IfOk result (λ ids. plain_ids ids ≡ ids_added overriding resources.now) }
 {
     let mut ids = FluentIds::new(alloc);
-    add_number(&mut ids)?;
+    ids.add_builtins_silently()?;
     for resource in resources {
         add(&mut ids, resource, overriding)?;
     }
     Ok(ids)
-}
-
-/// Adds `NUMBER`, unless its id stands for something.
-fn add_number(ids: &mut FluentIds<'_, '_, NoFunction>) -> Result<(), AllocError>
-    ensures { OnOk result (plain_ids ids.new ≡ with_id false (plain_ids ids.old) number_pair) }
-{
-    match ids.add_builtins() {
-        Ok(()) => Ok(()),
-        Err(AddFunctionError::Overriding(_)) => Ok(()),
-        Err(AddFunctionError::Memory) => Err(AllocError),
-    }
 }
 
 /// Adds the messages and terms of a resource.

@@ -9,7 +9,7 @@ use Rattle.fluent_calls.proofs.catalog.ids_of.Goals as goal
 pub loop-place-preserved : goal.loop-place-preserved
 loop-place-preserved c =
     let name = c.index-functions-place.result in
-    c.in_ok-add_function.ensures
+    c.in_ok-add_function_silently.ensures.added
     ∙ ap (λ ids. with_id false ids (c.deref.result.now, function c.loop-place.place)) c.loop-place.invariant
     ∙ ap (λ s. with_id false (with_functions (map string_bytes (take c.loop-place.place c.args.functions.now)) (ids_added c.args.overriding c.args.resources.now)) (s, function c.loop-place.place)) c.deref.ensures
     ∙ sym (functions-next (ids_added c.args.overriding c.args.resources.now) c.args.functions.now c.loop-place.place name c.loop-place-test.true c.index-functions-place.is)
