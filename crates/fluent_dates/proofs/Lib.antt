@@ -1,2 +1,3 @@
 pub mod Gaps
+pub mod PlaceSteps
 pub mod WritingSteps
