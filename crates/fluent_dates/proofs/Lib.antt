@@ -1,1 +1,3 @@
+pub mod Gaps
+pub mod PlaceSteps
 pub mod WritingSteps

@@ -1,7 +1,7 @@
 //! The pattern that is nearest to the fields that are wanted (UTS 35, "Matching Skeletons").
 ghost use Rattle.std.specs.Prelude.{◌≡◌, ◌&&◌, ◌==◌, not, option_map};
 ghost use Rattle.fluent_date_tables.specs.Texts.{text_numbered};
-ghost use Rattle.fluent_dates.specs.Matching.{found_view, is_nearer, nearer, wider};
+ghost use Rattle.fluent_dates.specs.Matching.{found_view, gap_between, is_nearer, nearer, nearest_of, paired, wider};
 
 use crate::fields::{Fields, measures};
 use fluent_date_tables::{
@@ -70,7 +70,10 @@ fn wider(bit: u16, gap: Gap, asked: u16, have: u16) -> Gap
 }
 
 /// How far a skeleton is from what is wanted.
-fn gap_between(wanted: &Measures, known: &Measures) -> Gap {
+#[tactic(auto, using(crate::proofs::Gaps::gap_next))]
+fn gap_between(wanted: &Measures, known: &Measures) -> Gap
+    ensures { result ≡ gap_between wanted.now known.now }
+{
     let mut gap = Gap {
         far: 0,
         lacks: 0,
@@ -104,7 +107,10 @@ fn nearer(best: Option<Found>, new: Found) -> Option<Found>
 }
 
 /// The nearer of the nearest until now and the pattern of a pair.
-fn paired(wanted: &Measures, best: Option<Found>, pair: Pair) -> Option<Found> {
+fn paired(wanted: &Measures, best: Option<Found>, pair: Pair) -> Option<Found>
+    ensures { option_map found_view result
+        ≡ paired wanted.now (option_map found_view best) pair }
+{
     match skeleton_numbered(usize::from(pair.skeleton)) {
         Some(skeleton) => nearer(
             best,
@@ -119,7 +125,10 @@ fn paired(wanted: &Measures, best: Option<Found>, pair: Pair) -> Option<Found> {
 }
 
 /// The nearest of a list, and of one before it.
-fn nearest_of(before: Option<Found>, pairs: &'static [Pair], wanted: &Measures) -> Option<Found> {
+fn nearest_of(before: Option<Found>, pairs: &'static [Pair], wanted: &Measures) -> Option<Found>
+    ensures { option_map found_view result
+        ≡ nearest_of (option_map found_view before) pairs.now wanted.now }
+{
     let mut best = before;
     for pair in pairs {
         best = paired(wanted, best, *pair);

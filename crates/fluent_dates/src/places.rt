@@ -1,6 +1,6 @@
 //! Sets of places, a bit for each.
 ghost use Rattle.std.specs.Prelude.{◌≡◌, ◌<◌};
-ghost use Rattle.fluent_dates.specs.Patterns.{has_any, kept, later};
+ghost use Rattle.fluent_dates.specs.Patterns.{has_any, kept, last_place, later};
 
 use crate::fields::{Field, Fields, NONE};
 
@@ -37,7 +37,9 @@ fn later(places: u16, others: u16, place: usize, last: usize) -> usize
 }
 
 /// The last of some places that others lack; the first if there is none.
+#[tactic(auto, using(crate::proofs::PlaceSteps::last_next))]
 pub(crate) fn last_place(places: u16, others: u16) -> usize
+    ensures value { result ≡ last_place places others }
     ensures below { result < 11 }
 {
     let mut places = places;
