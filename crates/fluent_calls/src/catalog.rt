@@ -1,11 +1,13 @@
 //! The ids of sources that were read, and of functions.
 
 ghost use Rattle.std.specs.Prelude.{◌≡◌, false, IfOk, OnOk};
-ghost use Rattle.fluent_meaning.specs.Ids.{function, number_pair, with_id, with_ids};
-ghost use Rattle.fluent_calls.specs.DeskView.{by_id, ids_added, ids_with, plain_ids};
+ghost use Rattle.fluent_meaning.specs.Ids.{function, with_id};
+ghost use Rattle.fluent_run.specs.DeskView.{plain_ids};
+ghost use Rattle.fluent_calls.specs.CallsView.{ids_with};
 
 use fluent_ids::{AddFunctionError, FluentIds};
 use fluent_resource::FluentResource;
+use fluent_run::ids_of;
 use std::alloc::{AllocError, Global};
 
 /// What the ids of resources stand for, and then the names of functions, each of which is its place
@@ -15,7 +17,7 @@ use std::alloc::{AllocError, Global};
 ///
 /// # Errors
 /// [`AllocError`] if memory runs out; nothing is kept.
-pub(crate) fn ids_of<'r, 's>(
+pub(crate) fn ids_with<'r, 's>(
     alloc: Global,
     resources: &'r [FluentResource<'s>],
     overriding: bool,
@@ -23,38 +25,11 @@ pub(crate) fn ids_of<'r, 's>(
 ) -> Result<FluentIds<'r, 's, usize>, AllocError>
     ensures { IfOk result (λ ids. plain_ids ids ≡ ids_with functions.now overriding resources.now) }
 {
-    let mut ids = ids_of_resources(alloc, resources, overriding)?;
+    let mut ids = ids_of(alloc, resources, overriding)?;
     for (place, name) in functions.iter().enumerate() {
         add_function(&mut ids, name, place)?;
     }
     Ok(ids)
-}
-
-/// What the ids of resources stand for, and `NUMBER` before them.
-fn ids_of_resources<'r, 's>(
-    alloc: Global,
-    resources: &'r [FluentResource<'s>],
-    overriding: bool,
-) -> Result<FluentIds<'r, 's, usize>, AllocError>
-    ensures { IfOk result (λ ids. plain_ids ids ≡ ids_added overriding resources.now) }
-{
-    let mut ids = FluentIds::new(alloc);
-    add_number(&mut ids)?;
-    for resource in resources {
-        add(&mut ids, resource, overriding)?;
-    }
-    Ok(ids)
-}
-
-/// Adds `NUMBER`, unless its id stands for something.
-fn add_number(ids: &mut FluentIds<'_, '_, usize>) -> Result<(), AllocError>
-    ensures { OnOk result (plain_ids ids.new ≡ with_id false (plain_ids ids.old) number_pair) }
-{
-    match ids.add_builtins() {
-        Ok(()) => Ok(()),
-        Err(AddFunctionError::Overriding(_)) => Ok(()),
-        Err(AddFunctionError::Memory) => Err(AllocError),
-    }
 }
 
 /// Adds the function at a place among the names, unless its name stands for something.
@@ -71,19 +46,4 @@ fn add_function(
         Err(AddFunctionError::Overriding(_)) => Ok(()),
         Err(AddFunctionError::Memory) => Err(AllocError),
     }
-}
-
-/// Adds the messages and terms of a resource.
-fn add<'r, 's>(
-    ids: &mut FluentIds<'r, 's, usize>,
-    resource: &'r FluentResource<'s>,
-    overriding: bool,
-) -> Result<(), AllocError>
-    ensures { OnOk result (plain_ids ids.new
-        ≡ with_ids overriding (plain_ids ids.old) (by_id resource.now)) }
-{
-    if overriding {
-        return ids.add_resource_overriding(resource.tree());
-    }
-    ids.add_resource_silently(resource.tree())
 }
