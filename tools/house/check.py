@@ -84,7 +84,7 @@ CALLED = '''
 INNER = {
     'fluent_parsed': ['Collected', 'DedentedElements', 'IndentedElements'],
     'fluent_json_write': ['Object'],
-    'fluent_run': ['Desk'],
+    'fluent_run': ['Asking', 'Caller', 'Desk'],
     'fluent_text': ['Texts', 'Slices', 'StackBudget'],
     'fluent_kept': ['Bundle', 'RawBox', 'Question', 'Answer', 'Sources'],
 }

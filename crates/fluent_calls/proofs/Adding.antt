@@ -1,24 +1,10 @@
--- The ids of resources that are added one after the other, and of functions after them.
-use Rattle.std.proofs.Common.{◌≡◌, ℕ, zero, suc, ◌+◌, ◌<◌, false, Bool, List, [], ◌∷◌, ◌++◌, String, Global, length, get_or, take, map, string_bytes, refl, sym, ap, ◌∙◌, arith, append-nil}
+-- The ids of functions that are added one after the other.
+use Rattle.std.proofs.Common.{◌≡◌, ℕ, zero, suc, ◌+◌, ◌<◌, false, List, [], ◌∷◌, ◌++◌, String, Global, length, get_or, take, map, string_bytes, refl, sym, ap, ◌∙◌, arith}
 use Rattle.std.proofs.lemmas.List.{take_more, map-append}
-use Rattle.std.proofs.lemmas.Grind.{flat_map-append}
-use Rattle.std.specs.List.{flat_map}
 use Rattle.fluent_grammar.specs.Words.{Text}
 use Rattle.fluent_meaning.specs.Ids.{Ids, function, with_id, with_ids}
 use Rattle.fluent_meaning.proofs.InTurn.{with_ids-++}
-use Rattle.fluent_resource.specs.declared.resource.FluentResource.{FluentResource}
-use Rattle.fluent_calls.specs.DeskView.{by_id}
 use Rattle.fluent_calls.specs.Functions.{placed, with_functions}
-
--- one resource more
-pub ids-next : (overriding : Bool) (start : Ids ℕ) (rs : List FluentResource) (k : ℕ) (r : FluentResource) → k < length rs → r ≡ get_or rs k r →
-    with_ids overriding start (flat_map by_id (take (k + 1) rs)) ≡ with_ids overriding (with_ids overriding start (flat_map by_id (take k rs))) (by_id r)
-ids-next overriding start rs k r inside is =
-    ap (with_ids overriding start)
-    (ap (flat_map by_id) (take_more rs k r inside)
-    ∙ flat_map-append by_id (take k rs) (get_or rs k r ∷ [])
-    ∙ ap (λ x. flat_map by_id (take k rs) ++ x) (append-nil (by_id (get_or rs k r)) ∙ ap by_id (sym is)))
-    ∙ with_ids-++ overriding start (flat_map by_id (take k rs)) (by_id r)
 
 -- one name more
 placed-more : (place : ℕ) (names : List Text) (name : Text) → placed place (names ++ name ∷ []) ≡ placed place names ++ (name, function (place + length names)) ∷ []

@@ -1,4 +1,3 @@
 mod Texts
 mod Rows
 mod Adding
-mod Resolved

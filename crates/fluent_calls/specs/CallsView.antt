@@ -1,48 +1,28 @@
--- What patterns that call functions are resolved in, as plain data.
-use Rattle.std.specs.Prelude.{◌≡◌, ℕ, List, [], Option, None, map, string_bytes}
+-- What messages that call functions are formatted from, as plain data.
+use Rattle.std.specs.Prelude.{◌≡◌, ℕ, Bool, List, String, map, string_bytes}
+use Rattle.std.specs.declared.alloc.Global.{Global}
 use Rattle.fluent_grammar.specs.Words.{Text}
-use Rattle.fluent_ids.specs.Settings.{formatted_by}
-use Rattle.fluent_meaning.specs.Environment.{Environment}
-use Rattle.fluent_numerals.specs.Text.{value_text}
-use Rattle.fluent_numerals.specs.Views.{locale_view}
-use Rattle.fluent_numerals.specs.declared.numerals.LocaleNumerals.{LocaleNumerals}
-use Rattle.fluent_value.specs.ArgsView.{args_view}
-use Rattle.fluent_value.specs.Matching.{Plurals}
-use Rattle.fluent_value.specs.Value.{Value}
-use Rattle.fluent_value.specs.declared.args.FluentArgs.{FluentArgs}
-use Rattle.fluent_value.specs.declared.custom.NoCustom.{NoCustom}
-use Rattle.fluent_value.specs.declared.value.FluentValue.{FluentValue}
-use Rattle.fluent_calls.specs.CallValues.{plain, plain_all}
-use Rattle.fluent_calls.specs.Functions.{Functions, Table, answered_at}
+use Rattle.fluent_meaning.specs.Ids.{Ids}
+use Rattle.fluent_resource.specs.declared.resource.FluentResource.{FluentResource}
+use Rattle.fluent_run.specs.DeskView.{Gives, IsMadeOf, arguments_view, ids_added}
+use Rattle.fluent_run.specs.declared.settings.Settings.{Settings}
+use Rattle.fluent_calls.specs.Functions.{Functions, answered_at, with_functions}
 use Rattle.fluent_calls.specs.declared.calls.Calls.{Calls}
-use denote.Ref.{Bor}
+use Rattle.fluent_calls.specs.declared.desk.FunctionDesk.{FunctionDesk}
 
--- arguments or answers as plain data
-abbrev pub table_of : FluentArgs NoCustom → Table
-table_of args = args_view (λ c. tt) args
+-- the ids of resources, and functions of these names after them
+abbrev pub ids_with : List (String Global) → Bool → List FluentResource → Ids ℕ
+ids_with functions overriding resources = with_functions (map string_bytes functions) (ids_added overriding resources)
 
--- this is what is answered to a call of the function at a place, with `otherwise` for a call that has no answer
-abbrev pub IsAnswer : {K M : Type 0} → Functions → Calls K M → ℕ → List (FluentValue NoCustom) → FluentArgs NoCustom → FluentValue NoCustom → Type 0
-IsAnswer otherwise calls place positional named value =
-    plain value ≡ answered_at otherwise (map string_bytes calls.functions.now) (table_of calls.answers.now) place (plain_all positional) (table_of named)
+-- the names of a desk's functions
+abbrev pub names_of : {M : Type 0} → FunctionDesk M → List Text
+names_of desk = map string_bytes desk.functions.now
 
--- no value of a program's own type is around: it would be shown as nothing
-abbrev pub no_text : Unit {0} → Text
-no_text _ = []
+-- a desk with functions of these names is made of these
+pub record IsMadeWith {M : Type 0} (functions : List (String Global)) (read : List FluentResource) (asked : Settings) (rules : M) (made : FunctionDesk M) : Type 0 where
+  pub desk : IsMadeOf (ids_with functions asked.overriding read) read asked rules made.desk
+  pub names : names_of made ≡ map string_bytes functions
 
--- a locale's text of a value, if numbers are written as a locale does
-abbrev pub numerals_text : {M : Type 0} → M → Option (Bor LocaleNumerals) → Value (Unit {0}) → Option Text
-numerals_text plurals numerals = formatted_by (λ it _ value. value_text (locale_view it.now) value) plurals numerals
-
--- The plain environment, by what a plural source means. Messages and terms are handed down beside it, so it knows none.
-abbrev pub calls_view : {K M : Type 0} (otherwise : Functions) (category_of : M → Plurals) (stringified : M → (X : Type 0) → (X → Text) → X → Text)
-    → Calls K M → Environment (Unit {0}) ℕ
-calls_view otherwise category_of stringified calls = record {
-  find = λ id. None;
-  call = answered_at otherwise (map string_bytes calls.functions.now) (table_of calls.answers.now);
-  isolating = calls.isolating;
-  transformed = λ s. s;
-  formatted = numerals_text calls.plurals.now calls.numerals;
-  plurals = category_of calls.plurals.now;
-  shown = stringified calls.plurals.now (Unit {0}) no_text;
-}
+-- what functions give by the answers to their calls, with `otherwise` for a call that has no answer
+abbrev pub answers_of : {K : Type 0} → Functions → Calls K → Gives ℕ
+answers_of otherwise calls = answered_at otherwise (map string_bytes calls.functions.now) (arguments_view calls.answers.now)

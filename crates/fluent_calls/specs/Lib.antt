@@ -2,5 +2,4 @@ pub mod Calls
 pub mod CallValues
 pub mod Functions
 pub mod CallsView
-pub mod DeskView
 pub mod Outcomes

@@ -1,38 +1,32 @@
 -- What formatting a message that may call functions comes to.
-use Rattle.std.specs.Prelude.{◌≡◌, ℕ, Option, None, Some, IsNone, IsSomeAnd, map, option_copied, string_bytes}
+use Rattle.std.specs.Prelude.{◌≡◌, ℕ, Option, None, Some, IsNone, IsSomeAnd, option_copied, string_bytes}
 use denote.Ref.{Bor}
 use Rattle.fluent_answers.specs.Answers.{pattern_asked}
 use Rattle.fluent_ast.specs.declared.Pattern.{Pattern}
-use Rattle.fluent_errors.specs.Errors.{unresolved}
-use Rattle.fluent_errors.specs.View.{bundle_view}
 use Rattle.fluent_grammar.specs.Words.{Text}
 use Rattle.fluent_meaning.specs.Environment.{Environment}
 use Rattle.fluent_meaning.specs.Steps.{Done}
 use Rattle.fluent_meaning.specs.Substitution.{answer_written}
+use Rattle.fluent_run.specs.DeskView.{answer_in, arguments_view, environment_by}
+use Rattle.fluent_run.specs.ReplyView.{IsDone}
 use Rattle.fluent_value.specs.Args.{argument}
 use Rattle.fluent_value.specs.declared.args.FluentArgs.{FluentArgs}
 use Rattle.fluent_value.specs.declared.custom.NoCustom.{NoCustom}
 use Rattle.fluent_value.specs.declared.plurals.MemoizerKind.{Ghosts as KindGhosts}
-use Rattle.fluent_calls.specs.CallsView.{table_of}
-use Rattle.fluent_calls.specs.DeskView.{answer_in, environment_in}
-use Rattle.fluent_calls.specs.Functions.{Functions, Table}
+use Rattle.fluent_calls.specs.CallsView.{names_of}
+use Rattle.fluent_calls.specs.Functions.{Functions, Table, answered_at}
 use Rattle.fluent_calls.specs.declared.desk.FunctionDesk.{FunctionDesk}
-use Rattle.fluent_calls.specs.declared.outcome.Outcome.{Outcome}
-use Rattle.fluent_calls.specs.declared.outcome.Outcome.TheVariants as outcome
-use Rattle.fluent_calls.specs.declared.outcome.Written.{Written}
-
--- a text and its errors are what was written
-abbrev pub IsDone : Done Text → Written → Type 0
-IsDone done written = (string_bytes written.text ≡ done.value) × (map bundle_view written.errors.items ≡ map unresolved done.errors)
+use Rattle.fluent_calls.specs.declared.desk.Outcome.{Outcome}
+use Rattle.fluent_calls.specs.declared.desk.Outcome.TheVariants as outcome
 
 -- a call that the table lacks
 abbrev pub IsMissing : Table → Outcome → Type 0
-IsMissing table (outcome.Text written) = ⊥
+IsMissing table (outcome.Text reply) = ⊥
 IsMissing table (outcome.Call call) = argument (string_bytes call) table ≡ None
 
 -- what was written, or a call that the table lacks
 abbrev pub ComesTo : Done Text → Table → Outcome → Type 0
-ComesTo done table (outcome.Text written) = IsDone done written
+ComesTo done table (outcome.Text reply) = IsDone done reply
 ComesTo done table (outcome.Call call) = IsMissing table (outcome.Call call)
 
 -- By what stays the same while the table's functions answer.
@@ -45,13 +39,14 @@ module _ (env : Environment (Unit {0}) ℕ) where
 
   -- the same for the code's name, arguments and answers
   abbrev pub IsOutcomeOf : Text → Option (Bor Text) → FluentArgs NoCustom → FluentArgs NoCustom → Option Outcome → Type 0
-  IsOutcomeOf id attribute arguments answers outcome = IsOutcome id (option_copied attribute) (table_of arguments) (table_of answers) outcome
+  IsOutcomeOf id attribute arguments answers outcome = IsOutcome id (option_copied attribute) (arguments_view arguments) (arguments_view answers) outcome
 
 -- what a message comes to by what a desk has and what a plural source means
 abbrev pub Formats : {M : Type 0} → KindGhosts M → Functions → FunctionDesk M → Text → Option (Bor Text) → FluentArgs NoCustom → FluentArgs NoCustom → Option Outcome → Type 0
-Formats kind otherwise desk id attribute arguments answers outcome =
-    IsOutcomeOf (environment_in kind.category_of kind.stringified otherwise desk (table_of answers)) id attribute arguments answers outcome
+Formats kind otherwise made id attribute arguments answers outcome =
+    IsOutcomeOf (environment_by kind.category_of kind.stringified (answered_at otherwise (names_of made) (arguments_view answers)) made.desk) id attribute arguments answers outcome
 
 -- the same of the code's pattern
 abbrev pub Resolves : {M : Type 0} → KindGhosts M → Functions → FunctionDesk M → FluentArgs NoCustom → FluentArgs NoCustom → Pattern (Bor Text) → Outcome → Type 0
-Resolves kind otherwise desk arguments answers pattern outcome = ComesTo (answer_in kind otherwise desk arguments answers pattern) (table_of answers) outcome
+Resolves kind otherwise made arguments answers pattern outcome =
+    ComesTo (answer_in kind (answered_at otherwise (names_of made) (arguments_view answers)) made.desk arguments pattern) (arguments_view answers) outcome

@@ -4,7 +4,7 @@ ghost use Rattle.std.specs.Prelude.{◌≡◌, IfOk, map, string_bytes};
 ghost use Rattle.serde_json.specs.Data.{no_members, object, string};
 ghost use Rattle.serde_json.specs.View.{items_view, members_view, view};
 ghost use Rattle.fluent_calls.specs.Calls.{all_put, call_data, call_text, three, value_data};
-ghost use Rattle.fluent_calls.specs.CallsView.{table_of};
+ghost use Rattle.fluent_run.specs.DeskView.{arguments_view as table_of};
 ghost use Rattle.fluent_calls.specs.CallValues.{items_data, plain, plain_all};
 
 use fluent_value::{FluentArgs, FluentValue, NoCustom};

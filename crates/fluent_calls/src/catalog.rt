@@ -1,11 +1,12 @@
 //! The ids of sources that were read, and of functions.
 
-ghost use Rattle.std.specs.Prelude.{◌≡◌, IfOk, OnOk};
-ghost use Rattle.fluent_meaning.specs.Ids.{with_ids};
-ghost use Rattle.fluent_calls.specs.DeskView.{by_id, ids_added, ids_with, plain_ids};
+ghost use Rattle.std.specs.Prelude.{◌≡◌, IfOk};
+ghost use Rattle.fluent_run.specs.DeskView.{plain_ids};
+ghost use Rattle.fluent_calls.specs.CallsView.{ids_with};
 
 use fluent_ids::FluentIds;
 use fluent_resource::FluentResource;
+use fluent_run::ids_of;
 use std::alloc::{AllocError, Global};
 
 /// What the ids of resources stand for, and then the names of functions, each of which is its place
@@ -15,7 +16,7 @@ use std::alloc::{AllocError, Global};
 ///
 /// # Errors
 /// [`AllocError`] if memory runs out; nothing is kept.
-pub(crate) fn ids_of<'r, 's>(
+pub(crate) fn ids_with<'r, 's>(
     alloc: Global,
     resources: &'r [FluentResource<'s>],
     overriding: bool,
@@ -23,40 +24,9 @@ pub(crate) fn ids_of<'r, 's>(
 ) -> Result<FluentIds<'r, 's, usize>, AllocError>
     ensures { IfOk result (λ ids. plain_ids ids ≡ ids_with functions.now overriding resources.now) }
 {
-    let mut ids = ids_of_resources(alloc, resources, overriding)?;
+    let mut ids = ids_of(alloc, resources, overriding)?;
     for (place, name) in functions.iter().enumerate() {
         ids.add_function_silently(name, place)?;
     }
     Ok(ids)
-}
-
-/// What the ids of resources stand for, and `NUMBER` before them.
-fn ids_of_resources<'r, 's>(
-    alloc: Global,
-    resources: &'r [FluentResource<'s>],
-    overriding: bool,
-) -> Result<FluentIds<'r, 's, usize>, AllocError>
-    ensures { IfOk result (λ ids. plain_ids ids ≡ ids_added overriding resources.now) }
-{
-    let mut ids = FluentIds::new(alloc);
-    ids.add_builtins_silently()?;
-    for resource in resources {
-        add(&mut ids, resource, overriding)?;
-    }
-    Ok(ids)
-}
-
-/// Adds the messages and terms of a resource.
-fn add<'r, 's>(
-    ids: &mut FluentIds<'r, 's, usize>,
-    resource: &'r FluentResource<'s>,
-    overriding: bool,
-) -> Result<(), AllocError>
-    ensures { OnOk result (plain_ids ids.new
-        ≡ with_ids overriding (plain_ids ids.old) (by_id resource.now)) }
-{
-    if overriding {
-        return ids.add_resource_overriding(resource.tree());
-    }
-    ids.add_resource_silently(resource.tree())
 }

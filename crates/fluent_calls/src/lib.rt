@@ -11,8 +11,6 @@ mod calls;
 mod catalog;
 mod desk;
 mod otherwise;
-mod outcome;
 
-pub use desk::{DeskSettings, FunctionDesk};
+pub use desk::{FunctionDesk, Outcome};
 pub use otherwise::{Otherwise, Unanswered};
-pub use outcome::{Outcome, Written};

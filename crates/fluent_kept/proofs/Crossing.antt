@@ -27,6 +27,7 @@ use Rattle.fluent_plurals.proofs.plurals.LanguagePlurals.TheSendSync as plurals_
 use Rattle.fluent_plurals.specs.contracts.plurals.LanguagePlurals as plurals
 use Rattle.fluent_resource.specs.contracts.resource.FluentResource as read
 use Rattle.fluent_run.specs.contracts.desk.Desk as run_desk
+use Rattle.fluent_run.specs.contracts.settings.Settings as settings
 use Rattle.fluent_value.specs.contracts.function.NoFunction as function
 use Rattle.fluent_kept.specs.Catalogs.{Catalog}
 use Rattle.fluent_kept.specs.Handle.{handle_owns}
@@ -71,8 +72,21 @@ module _ (r s : NamedLft) where
   read_sync : IsSync (read.the_row s)
   read_sync = let t = read.the_type s in recorded_sync (Struct (shape t)) t.D t.to t.to_one (struct_sync (shape t) (str_sync, (tree_sync, tt)))
 
-  run_desk_send : IsSend (run_desk.the_field s r s plurals.the_row).row
-  run_desk_send = let a = ids_send in let b = plurals_sync in let c = numerals_send in let d = read_sync in search (std.crosses, sendable) depth 60 fits 20000
+  settings_send : IsSend settings.the_row
+  settings_send = let a = numerals_send in search sendable depth 40
+
+  settings_field_send : IsSend settings.the_field.row
+  settings_field_send = let a = numerals_send in search sendable depth 40
+
+  run_desk_send : IsSend (run_desk.the_field s r s plurals.the_row function.the_row).row
+  run_desk_send =
+      let a = ids_send in let b = plurals_sync in let c = settings_send in let d = read_sync in let e = settings_field_send in
+      search (std.crosses, sendable) depth 60 fits 20000
+
+  run_desk_row_send : IsSend (run_desk.the_row s r s plurals.the_row function.the_row)
+  run_desk_row_send =
+      let a = ids_send in let b = plurals_sync in let c = settings_send in let d = read_sync in let e = settings_field_send in
+      search (std.crosses, sendable) depth 60 fits 20000
 
   calling_entry_send : IsSend (entry.the_row r s usize)
   calling_entry_send = let a = resource_sync in let b = message_sync in let c = term_sync in search sendable depth 40
@@ -80,19 +94,21 @@ module _ (r s : NamedLft) where
   calling_ids_send : IsSend (ids.the_field r s usize).row
   calling_ids_send = let a = calling_entry_send in search (maps.crosses, std.crosses, sendable) depth 40 fits 20000
 
+  calling_desk_send : IsSend (run_desk.the_field s r s plurals.the_row usize).row
+  calling_desk_send =
+      let a = calling_ids_send in let b = plurals_sync in let c = settings_send in let d = read_sync in let e = settings_field_send in
+      search (std.crosses, sendable) depth 60 fits 20000
+
   function_desk_send : IsSend (function_desk.the_row s r s plurals.the_row)
-  function_desk_send = let a = calling_ids_send in let b = plurals_sync in let c = numerals_send in search (std.crosses, sendable) depth 60 fits 20000
+  function_desk_send = let a = calling_desk_send in search (std.crosses, sendable) depth 60 fits 20000
 
-  plain_send : IsSend (option.the_field (run_desk.the_row s r s plurals.the_row)).row
-  plain_send = let a = run_desk_send in search sendable depth 40
-
-  run_desk_row_send : IsSend (run_desk.the_row s r s plurals.the_row)
-  run_desk_row_send = let a = ids_send in let b = plurals_sync in let c = numerals_send in let d = read_sync in search (std.crosses, sendable) depth 60 fits 20000
+  plain_send : IsSend (option.the_field (run_desk.the_row s r s plurals.the_row function.the_row)).row
+  plain_send = let a = run_desk_row_send in search sendable depth 40
 
   function_desk_field_send : IsSend (function_desk.the_field s r s plurals.the_row).row
-  function_desk_field_send = let a = calling_ids_send in let b = plurals_sync in let c = numerals_send in search (std.crosses, sendable) depth 60 fits 20000
+  function_desk_field_send = let a = calling_desk_send in search (std.crosses, sendable) depth 60 fits 20000
 
-  plain_row_send : IsSend (option.the_row (run_desk.the_row s r s plurals.the_row))
+  plain_row_send : IsSend (option.the_row (run_desk.the_row s r s plurals.the_row function.the_row))
   plain_row_send = let a = run_desk_row_send in search sendable depth 40
 
   desks_send : IsSend (desks.the_row r s)

@@ -6,7 +6,7 @@ use Rattle.std.specs.Prelude.{IsNone, IsSome, IsSomeAnd, codes, is_some, unwrap_
 use Rattle.std.specs.Str.{bytes_eq}
 use Rattle.fluent_answers.specs.Answers.{pattern_asked}
 use Rattle.fluent_answers.specs.Sources.{ids_of}
-use Rattle.fluent_calls.specs.DeskView.{desk_ids}
+use Rattle.fluent_run.specs.DeskView.{desk_ids}
 use Rattle.fluent_calls.specs.Functions.{placed, with_functions}
 use Rattle.fluent_calls.specs.declared.desk.FunctionDesk.{FunctionDesk}
 use Rattle.fluent_grammar.specs.Tree as t
@@ -134,10 +134,10 @@ is-found env id attribute false true has is = (sym is, sym has)
 is-found env id attribute false false has is = (sym is, sym has)
 
 -- what a desk with functions finds is what the catalog has
-pub calling-found : (catalog : Catalog) (functions : Option (List Text)) (desk : FunctionDesk LanguagePlurals) (id : Text) (attribute : Option Text) → IsSomeAnd functions (λ names. CallsAs names catalog desk) →
-    (is_some (pattern_asked attribute (find (desk_ids desk) id)) ≡ is_some (pattern_asked attribute ((catalog_environment catalog).find id)))
-    × (is_some (message_in (find (desk_ids desk) id)) ≡ is_some (message_in ((catalog_environment catalog).find id)))
-calling-found catalog None desk id attribute calls = absurd calls
-calling-found catalog (Some names) desk id attribute calls =
+pub calling-found : (catalog : Catalog) (functions : Option (List Text)) (made : FunctionDesk LanguagePlurals) (id : Text) (attribute : Option Text) → IsSomeAnd functions (λ names. CallsAs names catalog made) →
+    (is_some (pattern_asked attribute (find (desk_ids made.desk) id)) ≡ is_some (pattern_asked attribute ((catalog_environment catalog).find id)))
+    × (is_some (message_in (find (desk_ids made.desk) id)) ≡ is_some (message_in ((catalog_environment catalog).find id)))
+calling-found catalog None made id attribute calls = absurd calls
+calling-found catalog (Some names) made id attribute calls =
     let same = ap message_in (ap (λ env. env.find id) (calls [])) ∙ messages-same names catalog.settings.overriding catalog.sources id in
-    (ap is_some (pattern-same attribute (find (desk_ids desk) id) ((catalog_environment catalog).find id) same), ap is_some same)
+    (ap is_some (pattern-same attribute (find (desk_ids made.desk) id) ((catalog_environment catalog).find id) same), ap is_some same)

@@ -2,9 +2,9 @@
 use Rattle.std.specs.Prelude.{◌≡◌, ℕ, List, Option, None, IfSome, IsSomeAnd, String, map, option_and_then, option_map, vec_items, string_bytes}
 use Rattle.std.specs.declared.alloc.Global.{Global}
 use Rattle.fluent_answers.specs.Sources.{Settings, environment_of, ids_of}
-use Rattle.fluent_calls.specs.DeskView as calls
+use Rattle.fluent_calls.specs.CallsView.{names_of}
 use Rattle.fluent_calls.specs.declared.desk.FunctionDesk.{FunctionDesk}
-use Rattle.fluent_calls.specs.Functions.{Table, calling_environment, no_answer}
+use Rattle.fluent_calls.specs.Functions.{Table, answered_at, calling_environment, no_answer}
 use Rattle.fluent_grammar.specs.Tiling.{runtime_tree}
 use Rattle.fluent_grammar.specs.Words.{Text}
 use Rattle.fluent_meaning.specs.Environment.{Environment}
@@ -13,7 +13,7 @@ use Rattle.fluent_numerals.specs.Lookup.{Locale, locale_for}
 use Rattle.fluent_plurals.specs.Plurals.{plurals_by}
 use Rattle.fluent_plurals.specs.declared.plurals.LanguagePlurals.{LanguagePlurals}
 use Rattle.fluent_resource.specs.ResourceView.{entries_view}
-use Rattle.fluent_run.specs.DeskView.{desk_ids, environment_in}
+use Rattle.fluent_run.specs.DeskView.{desk_ids, environment_by, environment_in}
 use Rattle.fluent_run.specs.ResourceIds.{all_by_id}
 use Rattle.fluent_run.specs.RunView.{no_text}
 use Rattle.fluent_tidy_laws.specs.Joined.{lists}
@@ -52,7 +52,7 @@ abbrev pub catalog_environment : Catalog → Environment (Unit {0}) NoFunction
 catalog_environment c = environment_of (plurals_by c.plurals) no_text c.settings c.sources
 
 -- the same, by what a desk has
-abbrev pub plain_environment : Desk LanguagePlurals → Environment (Unit {0}) NoFunction
+abbrev pub plain_environment : Desk LanguagePlurals NoFunction → Environment (Unit {0}) NoFunction
 plain_environment desk = environment_in plurals_by (λ _ S text. text) desk
 
 -- what stays the same while the catalog is asked for messages that call functions of these names, with a table of answers
@@ -65,7 +65,7 @@ catalog_calling c table = option_map (λ names. catalog_calling_by c names table
 
 -- the same, by what a desk with functions has
 abbrev pub calling_in : FunctionDesk LanguagePlurals → Table → Environment (Unit {0}) ℕ
-calling_in desk table = calls.environment_in plurals_by (λ _ S text. text) no_answer desk table
+calling_in made table = environment_by plurals_by (λ _ S text. text) (answered_at no_answer (names_of made) table) made.desk
 
 -- what the ids of a catalog stand for
 abbrev pub catalog_ids : Catalog → Ids NoFunction
@@ -81,17 +81,17 @@ pub record IsReadOf (read : Resources) (catalog : Catalog) : Type 0 where
   pub entries : map entries_view (vec_items read.list) ≡ map runtime_tree catalog.sources
 
 -- this answers as the catalog does, as if there were no functions
-pub record IsPlainOf (catalog : Catalog) (desk : Desk LanguagePlurals) : Type 0 where
+pub record IsPlainOf (catalog : Catalog) (desk : Desk LanguagePlurals NoFunction) : Type 0 where
   pub environment : plain_environment desk ≡ catalog_environment catalog
   pub ids : desk_ids desk ≡ catalog_ids catalog
   pub entries : all_by_id desk.resources.now ≡ catalog_entries catalog
 
 -- this does, of whatever catalog it was that was read
-abbrev pub IsPlainFor : Resources → Desk LanguagePlurals → Type 0
+abbrev pub IsPlainFor : Resources → Desk LanguagePlurals NoFunction → Type 0
 IsPlainFor read desk = (catalog : Catalog) → IsReadOf read catalog → IsPlainOf catalog desk
 
 -- this answers so still, of whatever catalog it was that was read
-abbrev pub StaysPlain : Resources → Option (Desk LanguagePlurals) → Option (Desk LanguagePlurals) → Type 0
+abbrev pub StaysPlain : Resources → Option (Desk LanguagePlurals NoFunction) → Option (Desk LanguagePlurals NoFunction) → Type 0
 StaysPlain read old new = (catalog : Catalog) → IsReadOf read catalog → IfSome old (IsPlainOf catalog) → IfSome new (IsPlainOf catalog)
 
 -- this answers calls of functions of these names as the catalog does

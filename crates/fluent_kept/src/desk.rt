@@ -11,10 +11,10 @@ use crate::question::{Answer, Question};
 use crate::resources::Resources;
 use crate::sources::{Sources, borrow_texts};
 use crate::variables::variable_names;
-use fluent_calls::{FunctionDesk, Outcome, Unanswered, Written};
+use fluent_calls::{FunctionDesk, Outcome, Unanswered};
 use fluent_check::check_text;
 use fluent_plurals::LanguagePlurals;
-use fluent_run::{Desk, Reply};
+use fluent_run::Desk;
 use fluent_value::{FluentArgs, NoCustom};
 use std::alloc::{AllocError, Global};
 
@@ -134,7 +134,9 @@ impl<'r, 's> KeptDesk<'r, 's> {
     {
         match &self.desks {
             Desks::Plain(desk) => found(desk.has(id, attribute), desk.has_message(id)),
-            Desks::Calling(desk, _) => found(desk.has(id, attribute), desk.has_message(id)),
+            Desks::Calling(made, _) => {
+                found(made.desk.has(id, attribute), made.desk.has_message(id))
+            }
         }
     }
 
@@ -281,7 +283,7 @@ fn function_desk<'r, 's>(
         alloc,
         &read.list,
         names,
-        sources.desk_settings(),
+        sources.settings(),
         &sources.plurals,
         sources.stack,
     )?;
@@ -330,7 +332,7 @@ fn attributes_of(desk: &Desk<'_, '_, '_, LanguagePlurals>, alloc: Global, id: &s
 
 /// What a message that may call functions gives for these arguments, with these answers to calls.
 fn called(
-    desk: &FunctionDesk<'_, '_, '_, LanguagePlurals>,
+    made: &FunctionDesk<'_, '_, '_, LanguagePlurals>,
     alloc: Global,
     id: &str,
     attribute: Option<&str>,
@@ -338,12 +340,12 @@ fn called(
     answers: &FluentArgs<'_, NoCustom>,
     spare: String,
 ) -> Answer
-    ensures { IsCalledTo desk.now id.now attribute.entry arguments.now answers.now result }
+    ensures { IsCalledTo made.now id.now attribute.entry arguments.now answers.now result }
 {
-    match desk.format::<Unanswered>(alloc, id, attribute, arguments, answers, spare) {
-        Ok(Some(Outcome::Text(Written { text, errors }))) => Answer::Reply(Reply { text, errors }),
+    match made.format::<Unanswered>(alloc, id, attribute, arguments, answers, spare) {
+        Ok(Some(Outcome::Text(reply))) => Answer::Reply(reply),
         Ok(Some(Outcome::Call(call))) => Answer::Call(call),
-        Ok(None) if desk.has_message(id) => Answer::NoPattern,
+        Ok(None) if made.desk.has_message(id) => Answer::NoPattern,
         Ok(None) => Answer::NoMessage,
         Err(_) => Answer::Memory,
     }

@@ -6,7 +6,6 @@ ghost use Rattle.fluent_run.specs.RunView.{settings_view};
 ghost use Rattle.fluent_serve.specs.Texts.{texts};
 ghost use Rattle.fluent_kept.specs.Catalogs.{catalog_of, numerals_of};
 
-use fluent_calls::DeskSettings;
 use fluent_numerals::LocaleNumerals;
 use fluent_plurals::LanguagePlurals;
 use fluent_run::Settings;
@@ -38,20 +37,6 @@ impl Sources {
         ensures { settings_view result ≡ (catalog_of self.now).settings }
     {
         Settings {
-            isolating: self.isolating,
-            overriding: self.overriding,
-            numerals: self.locale_numerals(),
-        }
-    }
-
-    /// The same for messages that may call functions.
-    pub(crate) fn desk_settings(&self) -> DeskSettings
-        ensures isolating { result.isolating ≡ (catalog_of self.now).settings.isolating }
-        ensures overriding { result.overriding ≡ (catalog_of self.now).settings.overriding }
-        ensures numerals { option_map locale_view result.numerals
-            ≡ (catalog_of self.now).settings.numerals }
-    {
-        DeskSettings {
             isolating: self.isolating,
             overriding: self.overriding,
             numerals: self.locale_numerals(),

@@ -1,7 +1,6 @@
 pub mod ResourceIds
 pub mod Answered
 pub mod Environments
-pub mod Numerals
 pub mod Lines
 pub mod Replies
 pub mod Valued

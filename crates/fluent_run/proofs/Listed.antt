@@ -14,13 +14,11 @@ use Rattle.fluent_ast.specs.declared.Entry.{Entry}
 use Rattle.fluent_grammar.specs.Words.{Text}
 use Rattle.fluent_ids.specs.declared.ids.FluentIds.{FluentIds}
 use Rattle.fluent_meaning.specs.Ids.{Meaning, entries_by_id, find}
-use Rattle.fluent_resource.specs.declared.resource.FluentResource.{FluentResource}
 use Rattle.fluent_serve.specs.Frames.{ended}
 use Rattle.fluent_value.specs.declared.function.NoFunction.{NoFunction}
 use Rattle.fluent_run.specs.DeskView.{plain_ids}
 use Rattle.fluent_run.specs.Listed.{AddsLine, Lists, SeesOneMore, has_seen}
 use Rattle.fluent_run.specs.Listing.{each_once, entry_ids, is_message, lines, message_lines}
-use Rattle.fluent_run.specs.ResourceIds.{all_by_id, by_id}
 use Rattle.fluent_run.specs.declared.listing.Listing.{Listing}
 
 or_true : (b : Bool) → (b || true) ≡ true
@@ -121,12 +119,3 @@ module _ (items : List (Entry (Bor Text))) (i : ℕ) (item : Entry (Bor Text)) (
 pub lists_none : (ids : FluentIds NoFunction) (listing : Listing) → string_bytes listing.text ≡ [] → listing.seen.keys ≡ [] → Lists ids [] listing
 unfolding each_once
 lists_none ids listing text keys = record { text = text; seen = λ id. rw keys refl }
-
-module _ (rs : List FluentResource) (k : ℕ) (r : FluentResource) (inside : k < length rs) (is : r ≡ get_or rs k r) where
-  -- the entries of the first resources, once one more comes
-  pub resources_next : all_by_id (take (k + 1) rs) ≡ all_by_id (take k rs) ++ by_id r
-  resources_next =
-      ap (λ l. all_by_id l) (take_more rs k r inside)
-      ∙ (flat_map-append by_id (take k rs) (get_or rs k r ∷ [])
-      ∙ (ap (λ l. all_by_id (take k rs) ++ l) (append-nil (by_id (get_or rs k r)))
-      ∙ rw (← is) refl))

@@ -1,21 +1,14 @@
 -- What the code's texts and errors stand for.
-use Rattle.std.specs.Prelude.{List, map, string_bytes}
-use denote.Ref.{Bor}
-use Rattle.fluent_answers.specs.Answers.{told}
-use Rattle.fluent_ast.specs.declared.Pattern.{Pattern}
+use Rattle.std.specs.Prelude.{◌≡◌, List, map, string_bytes}
 use Rattle.fluent_errors.specs.Errors.{Reported, overriding, damaged, unresolved}
 use Rattle.fluent_errors.specs.Texts.{bundle_text, resolver_text}
 use Rattle.fluent_errors.specs.View.{bundle_view}
 use Rattle.fluent_errors.specs.declared.bundle.FluentError.{FluentError}
 use Rattle.fluent_grammar.specs.Words.{Text}
-use Rattle.fluent_progress.specs.declared.context.Context.{Ghosts as Context}
-use Rattle.fluent_progress.specs.declared.place.Surroundings.{Surroundings}
+use Rattle.fluent_meaning.specs.Steps.{Done}
 use Rattle.fluent_serve.specs.Frames as frames
-use Rattle.fluent_resolver.specs.Steps.{answer}
 use Rattle.fluent_run.specs.declared.reply.ErrorLine.{ErrorLine}
 use Rattle.fluent_run.specs.declared.reply.Reply.{Reply}
-use Rattle.fluent_value.specs.declared.custom.FluentType.{Ghosts as Custom}
-use Rattle.fluent_value.specs.declared.scope.ValueScope.{Ghosts as Scope}
 
 -- an error as an answer reports it: of resolving, by its own text alone
 abbrev pub error_text : Reported → Text
@@ -39,6 +32,6 @@ reply_of text errors = record { text = text; errors = error_texts errors }
 abbrev pub reply_view : Reply → frames.Reply
 reply_view r = reply_of (string_bytes r.text) r.errors.items
 
--- what the code's pattern gives at a place, in what its context means
-abbrev pub resolved_reply : {C F E S : Type 0} {c : Custom C S} {e : Context E C F S} {v : Scope E C S} → Surroundings C F E S c e v → Pattern (Bor Text) → frames.Reply
-resolved_reply place pattern = told (answer place pattern)
+-- a text and its errors are what was written
+abbrev pub IsDone : Done Text → Reply → Type 0
+IsDone done reply = (string_bytes reply.text ≡ done.value) × (map bundle_view reply.errors.items ≡ map unresolved done.errors)

@@ -7,7 +7,6 @@ ghost use Rattle.fluent_run.specs.DeskView.{ids_added, plain_ids};
 
 use fluent_ids::FluentIds;
 use fluent_resource::FluentResource;
-use fluent_value::NoFunction;
 use std::alloc::{AllocError, Global};
 
 /// What the ids of resources stand for: first comes `NUMBER`, and then the messages and terms of
@@ -15,11 +14,11 @@ use std::alloc::{AllocError, Global};
 ///
 /// # Errors
 /// [`AllocError`] if memory runs out; nothing is kept.
-pub(crate) fn ids_of<'r, 's>(
+pub fn ids_of<'r, 's, F: Drop>(
     alloc: Global,
     resources: &'r [FluentResource<'s>],
     overriding: bool,
-) -> Result<FluentIds<'r, 's, NoFunction>, AllocError>
+) -> Result<FluentIds<'r, 's, F>, AllocError>
     ensures { IfOk result (λ ids. plain_ids ids ≡ ids_added overriding resources.now) }
 {
     let mut ids = FluentIds::new(alloc);
@@ -31,8 +30,8 @@ pub(crate) fn ids_of<'r, 's>(
 }
 
 /// Adds the messages and terms of a resource.
-fn add<'r, 's>(
-    ids: &mut FluentIds<'r, 's, NoFunction>,
+fn add<'r, 's, F: Drop>(
+    ids: &mut FluentIds<'r, 's, F>,
     resource: &'r FluentResource<'s>,
     overriding: bool,
 ) -> Result<(), AllocError>

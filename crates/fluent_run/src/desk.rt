@@ -6,12 +6,13 @@ ghost use Rattle.fluent_meaning.specs.Ids.{attribute_named, find};
 ghost use Rattle.fluent_ids.specs.Found.{message_in};
 ghost use Rattle.fluent_ids.specs.MessageView.{message_of};
 ghost use Rattle.fluent_serve.specs.Frames.{none, ok};
-ghost use Rattle.fluent_run.specs.DeskView.{attributes_in, desk_ids, elements_found, IsFormatted, ids_added, frame_asked, line_frame, messages_in, plain_ids, reply_frame, reply_to};
-ghost use Rattle.fluent_run.specs.ReplyView.{reply_of, reply_view};
+ghost use Rattle.fluent_run.specs.DeskView.{IsFormatted, IsMadeOf, answer_in, attributes_in, desk_ids, elements_found, ids_added, frame_asked, line_frame, messages_in, plain_ids, reply_frame, reply_to};
+ghost use Rattle.fluent_run.specs.ReplyView.{IsDone, reply_of, reply_view};
 ghost use Rattle.fluent_serve.specs.AnswerView.{Adds};
 ghost use Rattle.fluent_serve.specs.Exchange.{IsFrontOf};
 
 use crate::arguments::{are_arguments, read_valued};
+use crate::caller::{Asking, Caller, NoCaller};
 use crate::catalog::ids_of;
 use crate::listing::{message_lines, name_lines};
 use crate::reply::{ErrorLine, Reply, push_text, resolve};
@@ -19,63 +20,55 @@ use crate::settings::Settings;
 use fluent_ast::Pattern;
 use fluent_ids::laws::attributes_agree;
 use fluent_ids::{FluentIds, FluentMessage};
-use fluent_numerals::LocaleNumerals;
-use fluent_progress::{BorrowedSettings, Surroundings};
+use fluent_progress::Surroundings;
 use fluent_resolver::answer::lone_text;
 use fluent_resource::FluentResource;
 use fluent_serve::answer::Answer;
 use fluent_serve::request::Asked;
 use fluent_serve::serve::Engine;
 use fluent_text::stack::StackBudget;
-use fluent_value::{FluentArgs, MemoizerKind, NoCustom, NoFunction, NoTransform};
+use fluent_value::{FluentArgs, MemoizerKind, NoCustom, NoFunction};
 use std::alloc::{AllocError, Global};
 
-/// What lines are answered from: the sources and their ids, the plural source, whether placeables
-/// stand between isolation marks, how numbers are written, and how much of the machine's stack an
-/// answer may take.
+/// What messages are formatted from: resources and their ids, the plural source, the settings, and
+/// how much of the machine's stack an answer may take. Functions are values of the type `F` among
+/// the ids.
+///
+/// A desk without functions answers request lines.
 #[derive(Drop)]
-pub struct Desk<'b, 'r, 's, M> {
+pub struct Desk<'b, 'r, 's, M, F = NoFunction> {
     resources: &'r [FluentResource<'s>],
-    ids: FluentIds<'r, 's, NoFunction>,
-    plurals: &'b M,
-    isolating: bool,
-    numerals: Option<LocaleNumerals>,
-    stack: StackBudget,
+    /// What ids stand for.
+    pub ids: FluentIds<'r, 's, F>,
+    pub(crate) plurals: &'b M,
+    pub(crate) settings: Settings,
+    /// How much of the machine's stack an answer may take.
+    pub stack: StackBudget,
 }
 
-impl<'b, 'r, 's, M: MemoizerKind> Desk<'b, 'r, 's, M> {
-    /// Answers from resources, in their order, within a budget of the machine's stack for each
-    /// answer.
-    ///
-    /// # Errors
-    /// [`AllocError`] if memory runs out; nothing is kept.
-    pub fn new(
-        alloc: Global,
+impl<'b, 'r, 's, M: MemoizerKind, F: Drop> Desk<'b, 'r, 's, M, F> {
+    /// Answers from resources by what ids stand for, within a budget of the machine's stack for
+    /// each answer.
+    pub fn of(
+        ids: FluentIds<'r, 's, F>,
         resources: &'r [FluentResource<'s>],
         settings: Settings,
         plurals: &'b M,
         stack: StackBudget,
-    ) -> Result<Self, AllocError>
-        ensures ids { IfOk result (λ desk. desk_ids desk
-            ≡ ids_added settings.overriding resources.now) }
-        ensures resources { IfOk result (λ desk. desk.resources.now ≡ resources.now) }
-        ensures plurals { IfOk result (λ desk. desk.plurals.now ≡ plurals.now) }
-        ensures isolating { IfOk result (λ desk. desk.isolating ≡ settings.isolating) }
-        ensures numerals { IfOk result (λ desk. desk.numerals ≡ settings.numerals) }
+    ) -> Self
+        ensures { IsMadeOf (plain_ids ids.entry) resources.now settings plurals.now result }
     {
-        let ids = ids_of(alloc, resources, settings.overriding)?;
-        Ok(Desk {
+        Desk {
             resources,
             ids,
             plurals,
-            isolating: settings.isolating,
-            numerals: settings.numerals,
+            settings,
             stack,
-        })
+        }
     }
 
     /// The pattern of a message's value, or of its first attribute of a name.
-    fn pattern_named(&self, id: &str, attribute: Option<&str>) -> Option<&'r Pattern<&'s str>>
+    pub fn pattern_named(&self, id: &str, attribute: Option<&str>) -> Option<&'r Pattern<&'s str>>
         ensures { elements_found result
             ≡ pattern_asked (option_copied attribute.entry) (find (desk_ids self.now) id.now) }
     {
@@ -102,10 +95,62 @@ impl<'b, 'r, 's, M: MemoizerKind> Desk<'b, 'r, 's, M> {
     }
 
     /// What the ids of its messages, terms and functions stand for.
-    pub fn ids(&self) -> &FluentIds<'r, 's, NoFunction>
+    pub fn ids(&self) -> &FluentIds<'r, 's, F>
         ensures { plain_ids result.now ≡ desk_ids self.now }
     {
         &self.ids
+    }
+
+    /// What a pattern gives for these arguments, with what calls its functions. It is written into
+    /// the memory of `text`, whose old bytes are lost.
+    ///
+    /// # Errors
+    /// [`AllocError`] if memory runs out, if the pattern nests too deep for the desk's budget of
+    /// the machine's stack, or if a call of a function ends resolving; nothing is kept.
+    pub fn resolve<'x, L: Caller<F>>(
+        &'x self,
+        alloc: Global,
+        caller: &'x L,
+        pattern: &'r Pattern<&'s str>,
+        arguments: &'x FluentArgs<'_, NoCustom>,
+        text: String,
+    ) -> Result<Reply, AllocError>
+        ensures { IfOk result (IsDone (answer_in M.MemoizerKind (L.gives caller.now) self.now arguments.now pattern.now)) }
+    {
+        let context = Asking {
+            desk: self,
+            caller,
+            alloc,
+        };
+        let locals: Option<&'x FluentArgs<'s, NoCustom>> = None;
+        let place = Surroundings {
+            ids: &self.ids,
+            context: &context,
+            arguments: Some(arguments),
+            locals,
+        };
+        resolve(&place, pattern, text, self.stack)
+    }
+}
+
+impl<'b, 'r, 's, M: MemoizerKind> Desk<'b, 'r, 's, M> {
+    /// Answers from resources, in their order, within a budget of the machine's stack for each
+    /// answer.
+    ///
+    /// # Errors
+    /// [`AllocError`] if memory runs out; nothing is kept.
+    pub fn new(
+        alloc: Global,
+        resources: &'r [FluentResource<'s>],
+        settings: Settings,
+        plurals: &'b M,
+        stack: StackBudget,
+    ) -> Result<Self, AllocError>
+        ensures { IfOk result (IsMadeOf (ids_added settings.overriding resources.now)
+            resources.now settings plurals.now) }
+    {
+        let ids = ids_of(alloc, resources, settings.overriding)?;
+        Ok(Desk::of(ids, resources, settings, plurals, stack))
     }
 
     /// The ids of the messages, each in a line that ends in LF, in the order of their first entries
@@ -182,31 +227,17 @@ impl<'b, 'r, 's, M: MemoizerKind> Desk<'b, 'r, 's, M> {
 
     /// What a pattern gives for these arguments. It is written into the memory of `text`, whose old
     /// bytes are lost.
-    fn reply_to<'x>(
-        &'x self,
+    fn reply_to(
+        &self,
         alloc: Global,
         pattern: &'r Pattern<&'s str>,
-        arguments: &'x FluentArgs<'_, NoCustom>,
+        arguments: &FluentArgs<'_, NoCustom>,
         text: String,
     ) -> Result<Reply, AllocError>
         ensures { IfOk result (λ reply. reply_view reply
             ≡ reply_to M.MemoizerKind self.now arguments.now pattern.now) }
     {
-        let context: BorrowedSettings<'_, M, LocaleNumerals, NoTransform> = BorrowedSettings {
-            plurals: self.plurals,
-            isolating: self.isolating,
-            transform: None,
-            formatter: self.numerals.as_ref(),
-            alloc,
-        };
-        let locals: Option<&'x FluentArgs<'s, NoCustom>> = None;
-        let place = Surroundings {
-            ids: &self.ids,
-            context: &context,
-            arguments: Some(arguments),
-            locals,
-        };
-        resolve(&place, pattern, text, self.stack)
+        self.resolve(alloc, &NoCaller, pattern, arguments, text)
     }
 
     /// Appends the answer to a request that asks for a pattern, with these arguments after its

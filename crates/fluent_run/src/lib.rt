@@ -8,6 +8,7 @@
 
 mod answering;
 mod arguments;
+mod caller;
 mod catalog;
 mod desk;
 mod listing;
@@ -17,10 +18,12 @@ mod settings;
 
 pub use answering::{run, run_before_exit};
 pub use arguments::valued_arguments;
+pub use caller::{Asking, Caller};
+pub use catalog::ids_of;
 pub use desk::Desk;
 pub use fluent_serve::serve::RunError;
 pub use fluent_serve::stream::{FromRead, FromWrite, Sink, Source};
 pub use fluent_text::stack::StackBudget;
 pub use memory::answers;
-pub use reply::Reply;
+pub use reply::{Reply, resolve};
 pub use settings::Settings;

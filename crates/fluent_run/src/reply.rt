@@ -5,8 +5,9 @@ ghost use Rattle.std.specs.List.{flat_map};
 ghost use Rattle.fluent_errors.specs.Errors.{Reported};
 ghost use Rattle.fluent_errors.specs.View.{bundle_view};
 ghost use Rattle.fluent_progress.specs.Views.{state};
+ghost use Rattle.fluent_resolver.specs.Steps.{answer};
 ghost use Rattle.fluent_serve.specs.Frames.{ended, frame_of, ok};
-ghost use Rattle.fluent_run.specs.ReplyView.{error_text, error_texts, line_of, reply_of, reply_view, resolved_reply};
+ghost use Rattle.fluent_run.specs.ReplyView.{IsDone, error_text, error_texts, line_of, reply_of, reply_view};
 ghost use Rattle.fluent_serve.specs.AnswerView.{Adds};
 ghost use Rattle.fluent_serve.specs.Exchange.{IsFrontOf};
 
@@ -59,15 +60,15 @@ impl fmt::Display for ErrorLine<'_> {
 /// `text`, whose old bytes are lost.
 ///
 /// # Errors
-/// [`AllocError`] if memory runs out, or the budget does; nothing is kept.
-pub(crate) fn resolve<'b, 'r, 's, 'a, C: FluentType + Drop, F, E: Context<C, F>>(
+/// [`AllocError`] if memory runs out, the budget does, or the context ends resolving; nothing is
+/// kept.
+pub fn resolve<'b, 'r, 's, 'a, C: FluentType + Drop, F, E: Context<C, F>>(
     place: &Surroundings<'b, 'r, 's, 'a, C, F, E>,
     pattern: &'r Pattern<&'s str>,
     mut text: String,
     stack: StackBudget,
 ) -> Result<Reply, AllocError>
-    ensures { IfOk result (λ reply. reply_view reply
-        ≡ resolved_reply place.now pattern.now) }
+    ensures { IfOk result (IsDone (answer place.now pattern.now)) }
 {
     let alloc = place.context.alloc();
     text.clear();

@@ -8,5 +8,4 @@ pub mod LintLemmas
 pub mod Refusals
 pub mod RunLemmas
 pub mod TellLemmas
-pub mod Environments
 mod NumeralRows

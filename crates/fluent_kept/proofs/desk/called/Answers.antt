@@ -9,7 +9,7 @@ use Rattle.fluent_kept.proofs.desk.called.Goals as goal
 
 pub returns-in-Ok-Some-Text : goal.returns-in-Ok-Some-Text
 returns-in-Ok-Some-Text c =
-    let env = calling_in c.args.desk.now (arguments_view c.args.answers.now) in
+    let env = calling_in c.args.made.now (arguments_view c.args.answers.now) in
     let it = c.in-Ok-Some-Text in
-    reply-said env (arguments_view c.args.arguments.now) (pattern_asked (option_copied c.args.attribute) (env.find c.args.id.now)) it.field-0-0-0
+    reply-said env (arguments_view c.args.arguments.now) (pattern_asked (option_copied c.args.attribute) (env.find c.args.id.now)) it.reply
     (subst (λ outcome. IsOutcomeOf env c.args.id.now c.args.attribute c.args.arguments.now c.args.answers.now outcome) (it.field-0-is ∙ ap Some it.field-0-0-is) it.ensures)

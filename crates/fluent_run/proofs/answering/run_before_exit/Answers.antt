@@ -56,8 +56,7 @@ returns g c =
     let plurals = c.args.plurals.now in
     let settings = c.args.settings in
     let sources = c.args.sources.now in
-    let ids = c.in_ok-desk.ensures in
-    let same = line-same m.category_of m.stringified c.in_ok-desk.desk plurals settings c.deref.result.now c.in_ok-resources.resources.items sources c.deref.ensures.value c.in_ok-resources.ensures ids.ids ids.plurals ids.isolating ids.numerals in
+    let same = line-same m.category_of m.stringified c.in_ok-desk.desk plurals settings c.deref.result.now c.in_ok-resources.resources.items sources c.deref.ensures.value c.in_ok-resources.ensures c.in_ok-desk.ensures in
     record {
       answered =
           run-answered m plurals settings sources g.R.Source c.args.reader.now c.serve-outcome.new.reader g.W.Sink c.args.writer.now c.serve-outcome.new.writer c.serve-outcome.result _ same

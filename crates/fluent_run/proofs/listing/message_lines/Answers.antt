@@ -5,7 +5,8 @@ use Rattle.fluent_run.specs.DeskView.{plain_ids}
 use Rattle.fluent_run.specs.Listed.{Lists}
 use Rattle.fluent_run.specs.Listing.{message_lines}
 use Rattle.fluent_run.specs.ResourceIds.{all_by_id}
-use Rattle.fluent_run.proofs.Listed.{lists_none, resources_next}
+use Rattle.fluent_run.proofs.Listed.{lists_none}
+use Rattle.fluent_run.proofs.ResourceIds.{all_by_id-next}
 use Rattle.fluent_run.proofs.listing.message_lines.Goals as goal
 
 pub loop-resource-init : goal.loop-resource-init
@@ -17,7 +18,7 @@ loop-resource-preserved c =
     let i = c.loop-resource.resource-index in
     let before = all_by_id (take i rs) in
     subst (λ es. Lists c.args.ids.now es c.add_all.new.self)
-    (ap (λ es. before ++ entries_by_id es) c.tree.ensures ∙ sym (resources_next rs i c.resource-item.result c.loop-resource-test.true c.resource-item.is))
+    (ap (λ es. before ++ entries_by_id es) c.tree.ensures ∙ sym (all_by_id-next rs i c.resource-item.result c.loop-resource-test.true c.resource-item.is))
     (c.in_ok-add_all.ensures before c.loop-resource.invariant)
 
 pub returns : goal.returns

@@ -21,6 +21,6 @@ pub returns-in-Calling : goal.returns-in-Calling
 returns-in-Calling c = λ catalog is.
     let desks = subst (AreDesksOf catalog) c.in-Calling.is is.desks in
     let env = catalog_environment catalog in let id = c.args.id.now in let attribute = option_copied c.args.attribute in
-    let same = calling-found catalog catalog.functions c.in-Calling.desk id attribute desks.0 in
+    let same = calling-found catalog catalog.functions c.in-Calling.made id attribute desks.0 in
     subst (IsFound env id attribute) (sym c.found-in-Calling.ensures)
     (is-found env id attribute c.has-in-Calling.result c.has_message-in-Calling.result (c.has-in-Calling.ensures ∙ same.0) (c.has_message-in-Calling.ensures ∙ same.1))

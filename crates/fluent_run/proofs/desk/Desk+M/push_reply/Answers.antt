@@ -8,7 +8,7 @@ use Rattle.fluent_run.specs.ReplyView.{reply_of}
 use Rattle.fluent_serve.proofs.Outcomes.{on_ok_map}
 use Rattle.fluent_serve.specs.RequestView.{arguments_behind}
 use Rattle.fluent_value.specs.Value.{Value}
-use Rattle.fluent_run.proofs.desk.Desk.push_reply.Goals as goal
+use Rattle.fluent_run.proofs.desk.Desk+M.push_reply.Goals as goal
 
 pub returns-in-Some-clause-ok : goal.returns-in-Some-clause-ok
 returns-in-Some-clause-ok g c =

@@ -3,7 +3,7 @@ use Rattle.fluent_run.specs.DeskView.{elements_of, environment_in}
 use Rattle.fluent_run.proofs.Lines.{line-bad, line-asked}
 use Rattle.fluent_serve.proofs.Outcomes.{on_ok_map}
 use Rattle.fluent_serve.specs.RequestView.{arguments_behind}
-use Rattle.fluent_run.proofs.desk.Desk.push_answer.Goals as goal
+use Rattle.fluent_run.proofs.desk.Desk+M.push_answer.Goals as goal
 
 pub returns-in_default-clause-ok : goal.returns-in_default-clause-ok
 returns-in_default-clause-ok g c =

@@ -2,9 +2,9 @@ use Rattle.std.proofs.Common.{false, ap, map, string_bytes, sym, take, ◌∙◌
 use Rattle.fluent_meaning.specs.Ids.{function, with_id}
 use Rattle.fluent_calls.proofs.Adding.{functions-next}
 use Rattle.std.proofs.lemmas.List.{take_all}
-use Rattle.fluent_calls.specs.DeskView.{ids_added}
+use Rattle.fluent_run.specs.DeskView.{ids_added}
 use Rattle.fluent_calls.specs.Functions.{with_functions}
-use Rattle.fluent_calls.proofs.catalog.ids_of.Goals as goal
+use Rattle.fluent_calls.proofs.catalog.ids_with.Goals as goal
 
 pub loop-place-preserved : goal.loop-place-preserved
 loop-place-preserved c =

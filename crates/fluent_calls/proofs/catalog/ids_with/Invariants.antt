@@ -1,7 +1,7 @@
 use Rattle.std.proofs.Common.{◌≡◌, map, string_bytes, take}
-use Rattle.fluent_calls.specs.DeskView.{ids_added, plain_ids}
+use Rattle.fluent_run.specs.DeskView.{ids_added, plain_ids}
 use Rattle.fluent_calls.specs.Functions.{with_functions}
-use Rattle.fluent_calls.proofs.catalog.ids_of.Given as goal
+use Rattle.fluent_calls.proofs.catalog.ids_with.Given as goal
 
 -- the ids of the resources, and the functions so far
 abbrev pub invariant-loop-place : goal.invariant-loop-place

@@ -1,0 +1,136 @@
+//! What calls the functions of messages, and what patterns are resolved in with it.
+
+ghost use Rattle.std.specs.Prelude.{false, IfOk, is_some, List};
+ghost use Rattle.std.proofs.Common.{refl};
+ghost use Rattle.fluent_grammar.specs.Words.{Text};
+ghost use Rattle.fluent_value.specs.CallResult.{IsCallResult};
+ghost use Rattle.fluent_value.specs.Value.{Value, error};
+ghost use Rattle.fluent_run.specs.DeskView.{asking_view, numerals_text};
+ghost use Rattle.fluent_run.specs.RunView.{no_text};
+
+use crate::desk::Desk;
+use fluent_ids::FunctionRef;
+use fluent_number::{PluralCategory, PluralOperands, PluralRuleType};
+use fluent_progress::Context;
+use fluent_text::stack::StackBudget;
+use fluent_value::{
+    FluentArgs, FluentValue, MemoizerKind, NoCustom, NoFunction, ValueFormatter, ValueScope,
+    builtins,
+};
+use std::alloc::{AllocError, Global};
+use std::borrow::CowStr;
+
+/// What calls the functions of messages, each of which is an `F` among the ids of a desk.
+pub trait Caller<F> {
+    /// What a function gives for positional values and named arguments.
+    ghost gives: { Self → F → List (Value (Unit {0})) → List (Text × Value (Unit {0}))
+        → Value (Unit {0}) };
+
+    /// What a function gives for these arguments.
+    ///
+    /// # Errors
+    /// [`AllocError`] if memory runs out, or to end resolving; nothing is kept.
+    fn call<'a, 'n>(
+        &self,
+        alloc: Global,
+        function: &F,
+        positional: &[FluentValue<'a, NoCustom>],
+        named: &FluentArgs<'n, NoCustom>,
+    ) -> Result<FluentValue<'a, NoCustom>, AllocError>
+        ensures { IfOk result (IsCallResult (λ c. tt) (gives self.now function.now) positional.now named.now) };
+}
+
+/// What calls functions if there are none but `NUMBER`.
+pub(crate) struct NoCaller;
+
+impl Caller<NoFunction> for NoCaller {
+    ghost gives = { λ _ _ _ _. error };
+
+    fn call<'a, 'n>(
+        &self,
+        _alloc: Global,
+        _function: &NoFunction,
+        _positional: &[FluentValue<'a, NoCustom>],
+        _named: &FluentArgs<'n, NoCustom>,
+    ) -> Result<FluentValue<'a, NoCustom>, AllocError> {
+        Ok(FluentValue::Error)
+    }
+}
+
+/// What patterns of a desk are resolved in but for their messages and terms.
+#[derive(Drop)]
+pub struct Asking<'x, 'b, 'r, 's, M, F, L> {
+    /// The desk.
+    pub desk: &'x Desk<'b, 'r, 's, M, F>,
+    /// What calls functions.
+    pub caller: &'x L,
+    /// What texts are made with.
+    pub alloc: Global,
+}
+
+impl<'x, 'b, 'r, 's, M: MemoizerKind, F, L: Caller<F>> ValueScope<NoCustom>
+    for Asking<'x, 'b, 'r, 's, M, F, L> {
+    ghost has_formatter = { λ asking. is_some asking.desk.now.settings.numerals };
+
+    ghost formatted = { λ asking. numerals_text asking.desk.now.settings };
+
+    ghost plurals = { λ asking. M.category_of asking.desk.now.plurals.now };
+
+    ghost shown = { λ asking. M.stringified asking.desk.now.plurals.now (Unit {0}) no_text };
+
+    fn format(&self, value: &FluentValue<'_, NoCustom>) -> Result<Option<String>, AllocError> {
+        match &self.desk.settings.numerals {
+            Some(numerals) => numerals.format(self.alloc, value, self.desk.plurals),
+            None => Ok(None),
+        }
+    }
+
+    fn category(&self, rule: PluralRuleType, operands: &PluralOperands) -> PluralCategory {
+        self.desk.plurals.category(rule, operands)
+    }
+
+    fn stringify(&self, custom: &NoCustom) -> Result<CowStr<'static>, AllocError> {
+        self.desk.plurals.stringify_value(self.alloc, custom)
+    }
+
+    fn alloc(&self) -> Global {
+        self.alloc
+    }
+}
+
+impl<'x, 'b, 'r, 's, M: MemoizerKind, F, L: Caller<F>> Context<NoCustom, F>
+    for Asking<'x, 'b, 'r, 's, M, F, L> {
+    ghost environment = { asking_view M.category_of M.stringified L.gives };
+
+    ghost has_transform = { λ _. false };
+
+    fn call<'a, 'n>(
+        &self,
+        function: &FunctionRef<'_, F>,
+        positional: &[FluentValue<'a, NoCustom>],
+        named: &FluentArgs<'n, NoCustom>,
+    ) -> Result<FluentValue<'a, NoCustom>, AllocError> {
+        match function {
+            FunctionRef::Own(function) => self
+                .caller
+                .call(self.alloc, *function, positional, named),
+            FunctionRef::Number => builtins::NUMBER(self.alloc, positional, named),
+        }
+    }
+
+    fn transform<'t>(&self, text: &'t str) -> Result<CowStr<'t>, AllocError> {
+        Ok(CowStr::Borrowed(text))
+    }
+
+    fn is_isolating(&self) -> bool {
+        self.desk.settings.isolating
+    }
+
+    fn stack_budget(&self) -> StackBudget {
+        self.desk.stack
+    }
+
+    ghost shows = { λ _ _. refl };
+
+    ghost chooses = { λ _. refl };
+}
