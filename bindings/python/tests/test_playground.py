@@ -413,7 +413,7 @@ class LookedAtTest(unittest.TestCase):
                 (["--port", "99999"], "port"),
                 (["--port", str(taken)], f"port {taken} is in use: name another one, or --port 0"),
                 ([made + "/empty"], "there is no .ftl file"),
-                (["--locale", "x"], "no language tag"),
+                (["--locale", "x"], "no tag of a language"),
             ]:
                 ran = subprocess.run(
                     [sys.executable, "-m", "kozhvadi.playground", *words],

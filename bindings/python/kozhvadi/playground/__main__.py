@@ -10,7 +10,7 @@ import webbrowser
 from pathlib import Path
 from typing import Any
 
-from .._samples import is_tag
+from .._samples import has_rules, is_tag
 from . import __doc__ as about
 from ._pages import Playground
 from ._project import Project
