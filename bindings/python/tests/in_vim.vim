@@ -40,6 +40,8 @@ let told.renamed = map(['l10n/pl/main.ftl', 'l10n/pl/mark.ftl', 'l10n/en-US/main
       \ 'bufexists($FOLDER . "/" . v:val) && bufloaded($FOLDER . "/" . v:val)'
       \ . ' ? getbufline($FOLDER . "/" . v:val, 1, "$") : readfile($FOLDER . "/" . v:val)')
 call rename($FOLDER . '/l10n/en-US', $FOLDER . '/l10n/away')
+" ALE tells the server of a file again only if it has changed.
+call append('$', '# The reference is away.')
 ALELint
 call Await('index(map(Found(), "v:val[1]"), "missing-reference") >= 0')
 let told.without = Found()
