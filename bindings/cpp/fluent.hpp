@@ -66,7 +66,7 @@ inline const char *words_of(status why) noexcept {
     case status::no_memory:
         return "memory was refused, or it nests too deep for the budget of the stack";
     case status::unknown_locale:
-        return "the locale has no plural rules";
+        return "the locale is no tag of a language";
     case status::no_message:
         return "there is no message of the id";
     case status::no_pattern:
@@ -242,8 +242,13 @@ inline std::string plain_digits(std::string_view shown) {
     return digits;
 }
 
-// A double as a decimal, or as a text if it is infinite, no number, or 2^64 or more on either side of 0.
-inline std::variant<decimal, std::string> of_double(double number) {
+// The digits of a double, which don't say how many of them are shown.
+struct float_digits {
+    std::string digits;
+};
+
+// A double by its digits, or as a text if it is infinite, no number, or 2^64 or more on either side of 0.
+inline std::variant<float_digits, std::string> of_double(double number) {
     if (std::isnan(number))
         return std::string("nan");
     const double distance = std::fabs(number);
@@ -256,7 +261,7 @@ inline std::variant<decimal, std::string> of_double(double number) {
     if (distance >= 18446744073709551616.0)
         return sign + std::string(written);
     const std::string digits = plain_digits(written);
-    return decimal{digits == "0" ? digits : sign + digits};
+    return float_digits{digits == "0" ? digits : sign + digits};
 }
 
 template <class T>
@@ -295,6 +300,8 @@ public:
             return *text;
         if (const auto *number = std::get_if<decimal>(&held_))
             return number->digits;
+        if (const auto *number = std::get_if<detail::float_digits>(&held_))
+            return number->digits;
         if (const auto *number = std::get_if<std::int64_t>(&held_))
             return std::to_string(*number);
         if (const auto *number = std::get_if<std::uint64_t>(&held_))
@@ -312,7 +319,8 @@ public:
         return read;
     }
 
-    using kinds = std::variant<std::monostate, std::string, decimal, std::int64_t, std::uint64_t>;
+    using kinds =
+        std::variant<std::monostate, std::string, decimal, detail::float_digits, std::int64_t, std::uint64_t>;
     const kinds &held() const noexcept { return held_; }
 
 private:
@@ -331,8 +339,8 @@ public:
     }
     argument(std::string_view name, double number) : name_(name) {
         const auto made = detail::of_double(number);
-        made_.kind = std::holds_alternative<decimal>(made) ? FLUENT_DECIMAL : FLUENT_TEXT;
-        digits_ = made_.kind == FLUENT_DECIMAL ? std::get<decimal>(made).digits : std::get<std::string>(made);
+        made_.kind = std::holds_alternative<std::string>(made) ? FLUENT_TEXT : FLUENT_FLOAT;
+        digits_ = made_.kind == FLUENT_TEXT ? std::get<std::string>(made) : std::get<detail::float_digits>(made).digits;
     }
     template <class I, std::enable_if_t<detail::is_signed_number<I>, int> = 0>
     argument(std::string_view name, I number) noexcept : name_(name) {
@@ -369,6 +377,9 @@ private:
         } else if (const auto *number = std::get_if<decimal>(&held)) {
             made_.kind = FLUENT_DECIMAL;
             text_ = number->digits;
+        } else if (const auto *real = std::get_if<detail::float_digits>(&held)) {
+            made_.kind = FLUENT_FLOAT;
+            text_ = real->digits;
         } else if (const auto *integer = std::get_if<std::int64_t>(&held)) {
             made_.kind = FLUENT_INTEGER;
             made_.integer = *integer;

@@ -45,17 +45,17 @@ void words_are_those_of_c() {
 
 void test_doubles() {
     words_are_those_of_c();
-    SAME(digits_of(0.0), "1 0");
-    SAME(digits_of(-0.0), "1 0");
-    SAME(digits_of(0.1), "1 0.1");
-    SAME(digits_of(-1.5), "1 -1.5");
-    SAME(digits_of(100.0), "1 100");
-    SAME(digits_of(1e19), "1 10000000000000000000");
-    SAME(digits_of(1.0 / 3.0), "1 0.3333333333333333");
-    SAME(digits_of(1e-18), "1 0.000000000000000001");
-    SAME(digits_of(4e-19), "1 0");
-    SAME(digits_of(5e-19), "1 0.000000000000000001");
-    SAME(digits_of(-4e-19), "1 0");
+    SAME(digits_of(0.0), "5 0");
+    SAME(digits_of(-0.0), "5 0");
+    SAME(digits_of(0.1), "5 0.1");
+    SAME(digits_of(-1.5), "5 -1.5");
+    SAME(digits_of(100.0), "5 100");
+    SAME(digits_of(1e19), "5 10000000000000000000");
+    SAME(digits_of(1.0 / 3.0), "5 0.3333333333333333");
+    SAME(digits_of(1e-18), "5 0.000000000000000001");
+    SAME(digits_of(4e-19), "5 0");
+    SAME(digits_of(5e-19), "5 0.000000000000000001");
+    SAME(digits_of(-4e-19), "5 0");
     SAME(digits_of(18446744073709551616.0), "0 1.8446744073709552e+19");
     SAME(digits_of(-1e22), "0 -1e+22");
     SAME(digits_of(std::numeric_limits<double>::infinity()), "0 inf");
