@@ -32,8 +32,9 @@ LINK = re.compile(r'!?\[([^\]]*)\]\(([^)\s#]+)(#[^)\s]*)?\)')
 
 def released(root: Path) -> dict[str, Path]:
     """The files of the repository that a release has, and where it has them."""
-    folders = ('docs', 'docs/guide', 'docs/reference', 'bindings', *(f'bindings/{name}' for name in ('c', 'cpp', 'ffi', 'python')))
-    pages = [page for folder in folders for page in root.glob(f'{folder}/*.md') if page.name not in OF_THE_REPOSITORY]
+    docs = ('docs', *(f'docs/{name}' for name in ('command', 'library', 'rattle', 'reference')))
+    bindings = ('bindings', *(f'bindings/{name}' for name in ('c', 'cpp', 'ffi', 'python')))
+    pages = [page for folder in docs + bindings for page in root.glob(f'{folder}/*.md') if page.name not in OF_THE_REPOSITORY]
     patterns = ('*.ftl', 'l10n/*/main.ftl', 'notes/*/notes.ftl')
     sources = [path for pattern in patterns for path in root.glob(f'examples/{pattern}')]
     places = {str(path.relative_to(root)): DOC / path.relative_to(root) for path in sorted(pages + sources)}

@@ -21,7 +21,7 @@ FILES = {
 }
 
 
-GUIDE = HERE.parents[2] / "docs" / "guide" / "11-editors.md"
+GUIDE = HERE.parents[2] / "docs" / "command" / "editors.md"
 
 
 def lines_of_the_guide():

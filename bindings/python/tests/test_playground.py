@@ -381,7 +381,7 @@ class LookedAtTest(unittest.TestCase):
         self.assertLess({"en", "pl", "ar", "zh", "pt-PT"}, set(languages()))
 
     def test_the_command_of_the_guide(self):
-        guide = (ROOT / "docs/guide/12-playground.md").read_text(encoding="utf-8")
+        guide = (ROOT / "docs/command/playground.md").read_text(encoding="utf-8")
         line = next(each for each in guide.split("\n") if each.startswith("    python3 -m kozhvadi.playground"))
         words = [sys.executable, *line.split()[1:], "--port", "0"]
         environment = {**os.environ, "PYTHONPATH": str(FOLDER)}

@@ -11,7 +11,7 @@ from ._wire import Json
 # A wheel has the pages; in the repository they are where readers find them.
 _HERE = Path(__file__).resolve()
 _FOLDERS = [_HERE.parent / "pages", _HERE.parents[4] / "docs"] if len(_HERE.parents) > 4 else [_HERE.parent / "pages"]
-_PAGES = ("reference/lint.md", "guide/11-editors.md")
+_PAGES = ("reference/lint.md", "command/editors.md")
 
 _CODE = re.compile(r"`([a-z][a-z0-9-]*)`")
 
