@@ -1,4 +1,6 @@
 pub mod ReportLemmas
 pub mod ListedLemmas
+pub mod ListingLemmas
+pub mod NotedLemmas
 pub mod TidyLemmas
 pub mod ReadLemmas

@@ -1,7 +1,6 @@
 -- What becomes of files, and of the count of failures.
-use Rattle.std.specs.Prelude.{◌≡◌, ◌≢◌, ◌⊎◌, ℕ, ◌==◌, Bool, All, IsTrue, IsSorted, List, [], ◌∷◌, Option, IfSome, Result, Ok, Err, String, map, string_bytes, string_cmp, codes}
+use Rattle.std.specs.Prelude.{◌≡◌, ◌≢◌, ◌⊎◌, ℕ, ◌==◌, Bool, All, IsTrue, List, [], ◌∷◌, ◌++◌, Option, IfSome, Result, Ok, Err, codes}
 use Rattle.std.specs.List.{ends_with}
-use Rattle.std.specs.Global.{Global}
 use Rattle.fluent_serve.specs.Text.{Text}
 use Rattle.fluent_serve.specs.Devices.{one_more}
 use Rattle.ftl_files.specs.declared.folder.FileError.{FileError}
@@ -48,14 +47,23 @@ failures_after_replace old (Err Unwritable) = one_more old
 abbrev pub is_source_name : Text → Bool
 is_source_name name = ends_with (λ a b. a == b) name (codes ".ftl")
 
-abbrev pub AreNamed : List (String Global) → Type 0
-AreNamed names = All (λ name. IsTrue (is_source_name (string_bytes name))) names
+-- a name begins with that of a folder
+pub record IsBelow (folder name : Text) : Type 0 where
+  pub rest : Text
+  pub is : name ≡ folder ++ rest
 
--- they are names of sources, by their bytes
-pub record AreSources (names : List (String Global)) : Type 0 where
-  pub named : AreNamed names
-  pub ordered : IsSorted string_cmp names
+-- and is that of a source
+abbrev pub IsSourceBelow : Text → Text → Type 0
+IsSourceBelow folder name = IsTrue (is_source_name name) × IsBelow folder name
 
--- what a name is listed as: itself alone, or the sources below a folder
-abbrev pub IsListed : Text → List (String Global) → Type 0
-IsListed name names = (map string_bytes names ≡ name ∷ []) ⊎ AreSources names
+-- the sources of a folder, and then the folders of it that can't be listed
+pub record AreBelow (folder : Text) (names : List Text) : Type 0 where
+  pub sources : List Text
+  pub folders : List Text
+  pub are : names ≡ sources ++ folders
+  pub of_sources : All (IsSourceBelow folder) sources
+  pub of_folders : All (IsBelow folder) folders
+
+-- What a name stands for: itself alone, or what is below a folder of that name.
+abbrev pub StandFor : Text → List Text → Type 0
+StandFor name names = (names ≡ name ∷ []) ⊎ AreBelow name names

@@ -3,7 +3,7 @@ use Rattle.std.specs.Prelude.{◌≡◌, ◌⊎◌, Bool, true, false, List, [],
 use Rattle.fluent_serve.specs.Text.{Text}
 use Rattle.fluent_serve.specs.Devices.{HasFailed}
 use Rattle.lint_findings.specs.Comparison.{union}
-use Rattle.ftl_files.specs.Files.{State}
+use Rattle.ftl_files.specs.Files.{StandFor, State}
 
 -- the names of files, the lines of the paths that stand for none, and whether there is one
 pub record Listed : Type 0 where
@@ -27,10 +27,14 @@ listed_after l path (name ∷ names) = record l { names = l.names ++ name ∷ na
 abbrev pub each_once : Listed → List Text
 each_once l = union [] l.names
 
--- What a path stands for, if that is known. One that can't be listed stands for itself.
+-- a path stands for these names, and for all that are known
+pub record IsListedRight (path : Text) (names : List Text) (before : State) : Type 0 where
+  pub stand : StandFor path names
+  pub known : IfSome (before.sources path) (λ all. names ≡ all)
+
+-- What a path is listed as. One that can't be listed stands for itself.
 abbrev pub IsListedAs : Text → List Text → State → State → Type 0
-IsListedAs path names before after =
-    IfSome (before.sources path) (λ known. names ≡ known) ⊎ ((names ≡ path ∷ []) × HasFailed before.failures after.failures)
+IsListedAs path names before after = IsListedRight path names before ⊎ ((names ≡ path ∷ []) × HasFailed before.failures after.failures)
 
 -- paths are listed, one after the other, and what the files hold stays
 pub data AreListed (start : State) : List Text → Listed → State → Type 0 where

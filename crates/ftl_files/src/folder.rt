@@ -3,8 +3,8 @@
 //! Contracts see what the files of a `Folder` hold and which files lie below a name, if that is
 //! known, and how many of its calls have failed. `FromFiles` makes one of the system's files, of
 //! which nothing is known.
-ghost use Rattle.std.specs.Prelude.{◌≡◌, ◌⊎◌, ℕ, List, [], Option, IfOk, IfSome, OnOk, OnErr};
-ghost use Rattle.ftl_files.specs.Files.{IsListed, IsReplaced, failures_after_file, failures_after_replace};
+ghost use Rattle.std.specs.Prelude.{◌≡◌, ◌⊎◌, ℕ, List, [], Option, IfOk, IfSome, IsSorted, OnOk, OnErr, string_cmp};
+ghost use Rattle.ftl_files.specs.Files.{IsReplaced, StandFor, failures_after_file, failures_after_replace};
 ghost use Rattle.ftl_files.specs.Listing.{listed_names};
 
 use std::alloc::Global;
@@ -104,7 +104,8 @@ pub trait Folder {
     fn list(&mut self, alloc: Global, name: &str) -> Result<Listing, FileError>
         ensures listed { IfOk result (λ listing.
             IfSome (sources self.old name.now) (λ all. listed_names listing ≡ all)) }
-        ensures shape { IfOk result (λ listing. IsListed name.now listing.sources.items) }
+        ensures stand { IfOk result (λ listing. StandFor name.now (listed_names listing)) }
+        ensures ordered { IfOk result (λ listing. IsSorted string_cmp listing.sources.items) }
         ensures kept { contents self.new ≡ contents self.old }
         ensures same_sources { sources self.new ≡ sources self.old }
         ensures failed { failures self.new ≡ failures_after_file (failures self.old) result };

@@ -1,7 +1,7 @@
 //! The sources below a folder.
-ghost use Rattle.std.specs.Prelude.{◌≡◌, ◌∷◌, [], IfOk, IsTrue, map, string_bytes};
-ghost use Rattle.ftl_files.specs.Files.{AreNamed, AreSources, IsListed, is_source_name};
-ghost use Rattle.ftl_files.specs.Listing.{StaysNamed};
+ghost use Rattle.std.specs.Prelude.{◌≡◌, ◌∷◌, [], IfOk, IsSorted, map, string_bytes, string_cmp};
+ghost use Rattle.ftl_files.specs.Files.{StandFor, is_source_name};
+ghost use Rattle.ftl_files.specs.Listing.{AddsBelow, AreListedBelow, listed_names, path_in, slash_after};
 
 use crate::causes::{is_refused, words_of};
 use crate::folder::Listing;
@@ -24,7 +24,8 @@ pub(crate) fn list_sources<R: Files>(
     name: &str,
     why: &mut Option<&'static str>,
 ) -> io::Result<Listing>
-    ensures { IfOk result (λ listing. IsListed name.now listing.sources.items) }
+    ensures stand { IfOk result (λ listing. StandFor name.now (listed_names listing)) }
+    ensures ordered { IfOk result (λ listing. IsSorted string_cmp listing.sources.items) }
 {
     if is_folder(files, name) {
         list_below(files, alloc, name, why)
@@ -64,7 +65,8 @@ fn list_below<R: Files>(
     name: &str,
     why: &mut Option<&'static str>,
 ) -> io::Result<Listing>
-    ensures { IfOk result (λ listing. AreSources listing.sources.items) }
+    ensures below { IfOk result (AreListedBelow name.now) }
+    ensures ordered { IfOk result (λ listing. IsSorted string_cmp listing.sources.items) }
 {
     let mut listing = find_below(files, alloc, name, why)?;
     listing.sources.sort()?;
@@ -79,7 +81,7 @@ fn find_below<R: Files>(
     name: &str,
     why: &mut Option<&'static str>,
 ) -> io::Result<Listing>
-    ensures { IfOk result (λ listing. AreNamed listing.sources.items) }
+    ensures { IfOk result (AreListedBelow name.now) }
 {
     let mut walk = Walk {
         folders: Vec::new(alloc),
@@ -103,7 +105,7 @@ fn push_below<R: Files>(
     walk: &mut Walk,
     why: &mut Option<&'static str>,
 ) -> io::Result<()>
-    ensures { StaysNamed walk.old walk.new }
+    ensures { AddsBelow (string_bytes folder) walk.old walk.new }
 {
     match push_folder(files, alloc, folder.as_str(), walk) {
         Err(error) if !is_refused(&error) => {
@@ -117,11 +119,11 @@ fn push_below<R: Files>(
 
 /// Adds what lies in a folder.
 fn push_folder<R: Files>(files: &R, alloc: Global, folder: &str, walk: &mut Walk) -> io::Result<()>
-    ensures { StaysNamed walk.old walk.new }
+    ensures { AddsBelow folder.now walk.old walk.new }
 {
     for entry in read_dir(&(files, alloc), folder)? {
         match entry {
-            Ok(entry) => push_entry(alloc, &entry, walk)?,
+            Ok(entry) => push_entry(alloc, folder, &entry, walk)?,
             // A name that isn't UTF-8 can't be given on a command line either.
             Err(error) if error.kind() == ErrorKind::InvalidFilename => {}
             Err(error) => return Err(error),
@@ -130,22 +132,44 @@ fn push_folder<R: Files>(files: &R, alloc: Global, folder: &str, walk: &mut Walk
     Ok(())
 }
 
-/// Adds a folder or a source.
+/// Adds a folder or a source that lies in a folder.
 fn push_entry<R: Files>(
     alloc: Global,
+    folder: &str,
     entry: &DirEntry<R, Global>,
     walk: &mut Walk,
 ) -> io::Result<()>
-    ensures { StaysNamed walk.old walk.new }
+    ensures { AddsBelow folder.now walk.old walk.new }
 {
     let kind = entry.file_type()?;
-    let path = String::from_str(alloc, entry.path().as_str())?;
+    let path = path_in(alloc, folder, entry.file_name())?;
     if kind.is_dir() {
         walk.folders.push(path)?;
     } else if is_text_file(kind) && is_source_name(path.as_str()) {
         walk.listing.sources.push(path)?;
     }
     Ok(())
+}
+
+/// The path of a name in a folder.
+fn path_in(alloc: Global, folder: &str, name: &str) -> Result<String, AllocError>
+    ensures { IfOk result (λ path. string_bytes path ≡ path_in folder.now name.now) }
+{
+    let mut path = String::from_str(alloc, folder)?;
+    path.push_str(slash_after(folder))?;
+    path.push_str(name)?;
+    Ok(path)
+}
+
+/// A slash, unless the name of a folder ends with one.
+fn slash_after(folder: &str) -> &'static str
+    ensures { result.now ≡ slash_after folder.now }
+{
+    if folder.is_empty() || folder.as_bytes().ends_with(b"/") {
+        ""
+    } else {
+        "/"
+    }
 }
 
 /// Whether it may be read to its end, as a pipe may not. A link may lead to a file.

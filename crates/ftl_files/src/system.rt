@@ -1,6 +1,7 @@
 //! The system's files.
-ghost use Rattle.std.specs.Prelude.{◌≡◌, None};
+ghost use Rattle.std.specs.Prelude.{◌≡◌, [], None};
 ghost use Rattle.fluent_serve.specs.Devices.{one_more};
+ghost use Rattle.ftl_files.specs.Rows.{IsNoted, noted};
 
 use crate::causes::{is_refused, words_of};
 use crate::folder::{FileError, Folder, Listing, ReplaceError};
@@ -33,6 +34,7 @@ impl<'a, R: Files> FromFiles<'a, R> {
         ensures contents { ⟦<FromFiles<'a, R> as Folder>⟧.contents result ≡ (λ _. None) }
         ensures sources { ⟦<FromFiles<'a, R> as Folder>⟧.sources result ≡ (λ _. None) }
         ensures failures { ⟦<FromFiles<'a, R> as Folder>⟧.failures result ≡ 0 }
+        ensures noted { noted result.bad_bytes ≡ [] }
     {
         FromFiles {
             files,
@@ -49,7 +51,9 @@ impl<'a, R: Files> FromFiles<'a, R> {
 
     /// A line for each file that was read and isn't UTF-8, if these are noted: where its first byte
     /// is that isn't.
-    pub fn bad_bytes(&self) -> &str {
+    pub fn bad_bytes(&self) -> &str
+        ensures { result.now ≡ noted self.now.bad_bytes }
+    {
         match &self.bad_bytes {
             Some(lines) => lines.as_str(),
             None => "",
@@ -58,7 +62,9 @@ impl<'a, R: Files> FromFiles<'a, R> {
 
     /// Notes a file that was read, if it isn't UTF-8. If memory runs out, it isn't noted.
     fn note_bytes(&mut self, alloc: Global, name: &str, bytes: &[u8])
-        ensures { self.new.failures ≡ self.old.failures }
+        ensures failures { self.new.failures ≡ self.old.failures }
+        ensures noted { IsNoted name.now bytes.now
+            (noted self.old.bad_bytes) (noted self.new.bad_bytes) }
     {
         let Some(lines) = &mut self.bad_bytes else {
             return;
