@@ -152,6 +152,26 @@ python_example() {
         grep -qx '+greeting = Hello, { $name }!' changes
 }
 
+# Starts a server of the languages of the release, which prints its address, and asks it for a page in French.
+greets() {
+    local server status
+    "$@" home/.local/share/doc/kozhvadi/examples/l10n >address 2>/dev/null &
+    server=$!
+    timeout 20 bash -c 'until [ -s address ]; do sleep 0.1; done'
+    python3 -c '
+import sys, urllib.request
+request = urllib.request.Request(sys.argv[1] + "?name=Jane", headers={"Accept-Language": "fr"})
+page = urllib.request.urlopen(request, timeout=20).read().decode()
+sys.exit("Bienvenue, \u2068Jane\u2069." not in page)' "$(cat address)"
+    status=$?
+    kill "$server"
+    return $status
+}
+
+python_site() {
+    greets home/kozhvadi/bin/python home/.local/share/doc/kozhvadi/examples/middleware.py
+}
+
 # The language server, and the page of the playground with its two files.
 python_tools() {
     local message='{"id":1,"method":"initialize","params":{"capabilities":{}}}'
@@ -201,6 +221,12 @@ RUST
     cd rust && env -u FLUENT_C_LIB -u RATTLE_KIT_C cargo build --quiet --offline && [ "$(target/debug/stranger)" = 'Hello, Jane!' ]
 }
 
+rust_server() {
+    mkdir -p rust/examples && cp home/.local/share/doc/kozhvadi/examples/server.rs rust/examples &&
+        (cd rust && env -u FLUENT_C_LIB -u RATTLE_KIT_C cargo build --quiet --offline --example server) &&
+        greets rust/target/debug/examples/server
+}
+
 version=$("$root/crates/ftl/out/ftl" --version | cut -d' ' -f2)
 step_with 'cc ar python3 tar gzip' 'two releases are the same' same_twice
 step_with tar 'the release unpacks, and its sums hold' unpacks
@@ -216,8 +242,10 @@ step_with luajit 'a program for LuaJIT calls it by handles' lua_program
 step_with nm 'the shared library gives out the headers alone' exports_the_headers_alone
 step_with python3 'pip installs the wheel, and a program uses it' python_program
 step_with python3 'an example in Python changes a file' python_example
+step_with python3 'an example in Python is a site' python_site
 step_with python3 'its language server and its playground begin' python_tools
 step_with python3 'editors highlight a file' highlights
 step_with cargo 'cargo builds a program over the package' rust_program
+step_with 'cargo python3' 'an example in Rust is a web server' rust_server
 
 counts

@@ -132,6 +132,14 @@ static void try_occurrences(void) {
     fluent_free_text(&lines);
 }
 
+static void try_nodes(void) {
+    struct FluentText lines = {0};
+    const char *four = "Identifier 0 1\nTextElement 4 5\nPattern 4 5\nMessage 0 5\n";
+    check("nodes", fluent_nodes_of("a = b\n", &lines) == FLUENT_READ && holds(&lines, four));
+    check("the nodes in NULL", fluent_nodes_of(NULL, &lines) == FLUENT_READ && holds(&lines, ""));
+    fluent_free_text(&lines);
+}
+
 static void try_lint(void) {
     struct FluentText report = {0};
     const struct FluentFile files[] = {fluent_file("de.ftl", "hi = { F() }\n"), fluent_file("", NULL)};
@@ -213,6 +221,7 @@ int main(void) {
     try_tidy();
     try_outline();
     try_occurrences();
+    try_nodes();
     try_lint();
     check("a value is there", fluent_has(&bundle, "a", NULL) == FLUENT_READ);
     check("an attribute isn't", fluent_has(&bundle, "n", "title") == FLUENT_NO_PATTERN);

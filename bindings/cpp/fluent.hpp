@@ -14,6 +14,7 @@
 
 #include <algorithm>
 #include <charconv>
+#include <chrono>
 #include <cmath>
 #include <cstddef>
 #include <cstdint>
@@ -23,10 +24,12 @@
 #include <functional>
 #include <initializer_list>
 #include <iterator>
+#include <limits>
 #include <map>
 #include <memory>
 #include <mutex>
 #include <optional>
+#include <random>
 #include <stdexcept>
 #include <string>
 #include <string_view>
@@ -72,7 +75,7 @@ inline const char *words_of(status why) noexcept {
     case status::no_pattern:
         return "the message has no value, or no attribute of the name";
     case status::bad_argument:
-        return "what was passed isn't valid: an argument's kind or decimal, the size of options, or the text of a call";
+        return "what was passed isn't valid: an argument's kind or decimal, the size of options, a date, or the text of a call";
     case status::no_bundle:
         return "there is no bundle";
     case status::has_errors:
@@ -271,7 +274,155 @@ constexpr bool is_unsigned_number = std::is_integral_v<T> && std::is_unsigned_v<
 
 } // namespace detail
 
-// A text, a number or no value: what a message passes to a function, and what the function gives. It owns its text.
+// A date, its time if it has one, and how it is shown. Your program converts time zones: a date has the numbers that its
+// clock shows, and how far that is ahead of UTC, if that is known.
+//
+//     const auto now = fluent::date(std::chrono::system_clock::now(), std::chrono::hours(1));
+//     inbox.format("received", {{"date", now.with("dateStyle", "long")}});
+class date {
+public:
+    // The options by their names: texts, and numbers for `fractionalSecondDigits`.
+    using named = std::map<std::string, std::variant<std::string, std::int64_t>, std::less<>>;
+
+    // A date without a time. The year 0 is 1 BC.
+    date(int year, unsigned month, unsigned day) noexcept {
+        numbers_.year = bounded<std::int16_t>(year);
+        numbers_.month = bounded<std::uint8_t>(month);
+        numbers_.day = bounded<std::uint8_t>(day);
+    }
+    // The date and the time that a clock shows which is this much ahead of UTC. Of a zoned_time it is `get_sys_time()` and
+    // `get_info().offset`.
+    explicit date(
+        std::chrono::system_clock::time_point when, std::chrono::seconds ahead = std::chrono::seconds(0)) noexcept {
+        using namespace std::chrono;
+        const auto since = duration_cast<nanoseconds>(when.time_since_epoch());
+        auto second = duration_cast<seconds>(since);
+        if (second > since)
+            second -= seconds(1);
+        const std::int64_t shown = second.count() + ahead.count();
+        const std::int64_t days = shown / 86400 - (shown % 86400 < 0), of_day = shown - days * 86400;
+        *this = of_days(days).at(of_day / 3600, of_day / 60 % 60, of_day % 60, (since - second).count()).on(ahead);
+    }
+#if __cplusplus >= 202002L
+    explicit date(const std::chrono::year_month_day &day) noexcept
+        : date(int(day.year()), unsigned(day.month()), unsigned(day.day())) {}
+#endif
+
+    // The date with a time.
+    date at(std::int64_t hour, std::int64_t minute, std::int64_t second = 0, std::int64_t nanosecond = 0) const {
+        date made = *this;
+        made.numbers_.hour = bounded<std::uint8_t>(hour);
+        made.numbers_.minute = bounded<std::uint8_t>(minute);
+        made.numbers_.second = bounded<std::uint8_t>(second);
+        made.numbers_.nanosecond = bounded<std::uint32_t>(nanosecond);
+        made.numbers_.has_time = true;
+        return made;
+    }
+    // The date on a clock that is this much ahead of UTC.
+    date on(std::chrono::seconds ahead) const {
+        date made = *this;
+        made.numbers_.offset = bounded<std::int32_t>(ahead.count());
+        made.numbers_.has_offset = true;
+        return made;
+    }
+    // The date with an option of `DATETIME`, such as `dateStyle`. An option that isn't there does nothing, and neither does a
+    // value that it doesn't have.
+    date with(std::string_view name, std::string_view text) const {
+        date made = *this;
+        if (is_value(name, text))
+            made.options_.insert_or_assign(std::string(name), std::string(text));
+        return made;
+    }
+    date with(std::string_view name, std::int64_t number) const {
+        date made = *this;
+        if (name == "fractionalSecondDigits" && number >= 1 && number <= 3)
+            made.options_.insert_or_assign(std::string(name), number);
+        return made;
+    }
+
+    // The date as the locale of a tag writes it, or as ISO 8601 does if its language isn't known; or why there is none:
+    // status::bad_argument for numbers that make no date, or status::no_memory.
+    expected<std::string> try_text(std::string_view locale) const;
+
+    // What fluent_c.h takes.
+    const FluentDate &numbers() const noexcept { return numbers_; }
+    const named &options() const noexcept { return options_; }
+
+    // What ISO 8601 has for the date, such as 2026-11-28T20:15:05+01:00.
+    std::string iso() const {
+        const FluentDate &of = numbers_;
+        std::string made = (of.year < 0 ? "-" : "") + digits(of.year < 0 ? -of.year : of.year, 4) + '-' + digits(of.month, 2) + '-' +
+            digits(of.day, 2);
+        if (!of.has_time)
+            return made;
+        made += 'T' + digits(of.hour, 2) + ':' + digits(of.minute, 2) + ':' + digits(of.second, 2);
+        if (of.nanosecond)
+            made += '.' + digits(of.nanosecond, 9);
+        if (!of.has_offset)
+            return made;
+        const std::int64_t ahead = std::int64_t{of.offset} < 0 ? -std::int64_t{of.offset} : of.offset;
+        if (ahead == 0)
+            return made + 'Z';
+        made += (of.offset < 0 ? '-' : '+') + digits(ahead / 3600, 2) + ':' + digits(ahead / 60 % 60, 2);
+        return ahead % 60 ? made + ':' + digits(ahead % 60, 2) : made;
+    }
+
+private:
+    // A number, or one that no date has.
+    template <class T>
+    static T bounded(std::int64_t number) noexcept {
+        const bool is = number >= std::int64_t{std::numeric_limits<T>::min()} && number <= std::int64_t{std::numeric_limits<T>::max()};
+        return is ? static_cast<T>(number) : std::numeric_limits<T>::max();
+    }
+
+    static std::string digits(std::int64_t number, std::size_t count) {
+        const std::string made = std::to_string(number);
+        return made.size() < count ? std::string(count - made.size(), '0') + made : made;
+    }
+
+    // The date that is this number of days after 1 January 1970.
+    static date of_days(std::int64_t days) noexcept {
+        // Days since 1 March of the year 0, in cycles of 400 years, of which a year begins in March.
+        const std::int64_t from = days + 719468, cycle = from / 146097 - (from % 146097 < 0), day = from - cycle * 146097;
+        const std::int64_t year = (day - day / 1460 + day / 36524 - day / 146096) / 365;
+        const std::int64_t of_year = day - (365 * year + year / 4 - year / 100), month = (5 * of_year + 2) / 153;
+        date made(0, 0, 0);
+        made.numbers_.year = bounded<std::int16_t>(cycle * 400 + year + (month > 9));
+        made.numbers_.month = bounded<std::uint8_t>(month < 10 ? month + 3 : month - 9);
+        made.numbers_.day = bounded<std::uint8_t>(of_year - (153 * month + 2) / 5 + 1);
+        return made;
+    }
+
+    // Whether an option has a value of this name.
+    static bool is_value(std::string_view name, std::string_view text) noexcept {
+        struct option {
+            std::string_view names, values;
+        };
+        constexpr option options[] = {
+            {" dateStyle timeStyle ", " full long medium short "},
+            {" hourCycle ", " h11 h12 h23 h24 "},
+            {" hour12 ", " true false "},
+            {" weekday era dayPeriod ", " narrow short long "},
+            {" year day hour minute second ", " numeric 2-digit "},
+            {" month ", " numeric 2-digit narrow short long "},
+            {" timeZoneName ", " short long shortOffset longOffset shortGeneric longGeneric "},
+        };
+        const auto has = [](std::string_view words, std::string_view word) {
+            for (std::size_t at = words.find(word); !word.empty() && at != words.npos; at = words.find(word, at + 1))
+                if (words[at - (at > 0)] == ' ' && at + word.size() < words.size() && words[at + word.size()] == ' ')
+                    return true;
+            return false;
+        };
+        return std::any_of(std::begin(options), std::end(options), [&](const option &each) {
+            return has(each.names, name) && has(each.values, text);
+        });
+    }
+
+    FluentDate numbers_{};
+    named options_;
+};
+
+// A text, a number, a date or no value: what a message passes to a function, and what the function gives. It owns its text.
 class value {
 public:
     // No value.
@@ -280,6 +431,7 @@ public:
     value(std::string_view text) : held_(std::string(text)) {}
     value(const char *text) : held_(std::string(text ? text : "")) {}
     value(decimal number) : held_(std::move(number)) {}
+    value(fluent::date date) : held_(std::move(date)) {}
     value(double number) {
         std::visit([this](auto &&made) { held_ = std::move(made); }, detail::of_double(number));
     }
@@ -293,8 +445,10 @@ public:
 
     bool has_value() const noexcept { return held_.index() != 0; }
     bool is_text() const noexcept { return std::holds_alternative<std::string>(held_); }
+    // The date, or a null pointer if the value is none.
+    const fluent::date *date() const noexcept { return std::get_if<fluent::date>(&held_); }
 
-    // The text, or the digits of a number. Without a value it is empty.
+    // The text, the digits of a number, or a date as ISO 8601 has it. Without a value it is empty.
     std::string text() const {
         if (const auto *text = std::get_if<std::string>(&held_))
             return *text;
@@ -306,12 +460,12 @@ public:
             return std::to_string(*number);
         if (const auto *number = std::get_if<std::uint64_t>(&held_))
             return std::to_string(*number);
-        return {};
+        return date() ? date()->iso() : std::string();
     }
 
     // The double that is nearest to a number. A text is none, whatever it looks like.
     std::optional<double> number() const {
-        if (!has_value() || is_text())
+        if (!has_value() || is_text() || date())
             return std::nullopt;
         const std::string digits = text();
         double read = 0;
@@ -320,7 +474,7 @@ public:
     }
 
     using kinds =
-        std::variant<std::monostate, std::string, decimal, detail::float_digits, std::int64_t, std::uint64_t>;
+        std::variant<std::monostate, std::string, decimal, detail::float_digits, std::int64_t, std::uint64_t, fluent::date>;
     const kinds &held() const noexcept { return held_; }
 
 private:
@@ -355,9 +509,13 @@ public:
     // A truth value is no number: pass a text, or choose the message by it.
     template <class B, std::enable_if_t<std::is_same_v<B, bool>, int> = 0>
     argument(std::string_view name, B) = delete;
+    argument(std::string_view name, fluent::date date) : name_(name), date_(std::move(date)) { made_.kind = FLUENT_NO_VALUE; }
     argument(std::string_view name, const value &given) : name_(name) { take(given.held()); }
 
-    // What fluent_c.h takes. It is of use as long as this argument is.
+    // The date, if the argument is one.
+    const std::optional<fluent::date> &date() const noexcept { return date_; }
+
+    // What fluent_c.h takes, for which a date has no value. It is of use as long as this argument is.
     FluentArgument for_c() const noexcept {
         const std::string_view text = digits_.empty() ? text_ : std::string_view(digits_);
         FluentArgument made = made_;
@@ -386,6 +544,8 @@ private:
         } else if (const auto *natural = std::get_if<std::uint64_t>(&held)) {
             made_.kind = FLUENT_UNSIGNED;
             made_.unsigned_integer = *natural;
+        } else if (const auto *date = std::get_if<fluent::date>(&held)) {
+            date_ = *date;
         }
     }
 
@@ -393,8 +553,82 @@ private:
     std::string_view text_;
     // What a double is written as, and else empty.
     std::string digits_;
+    std::optional<fluent::date> date_;
     FluentArgument made_{};
 };
+
+inline expected<std::string> date::try_text(std::string_view locale) const {
+    std::vector<argument> options;
+    for (const auto &[name, option] : options_) {
+        if (const auto *text = std::get_if<std::string>(&option))
+            options.emplace_back(name, *text);
+        else
+            options.emplace_back(name, std::get<std::int64_t>(option));
+    }
+    std::vector<FluentArgument> given;
+    for (const argument &each : options)
+        given.push_back(each.for_c());
+    detail::text made;
+    const std::uint32_t told = fluent_write_date(
+        detail::bytes(locale), locale.size(), &numbers_, detail::first(given), given.size(), made.put());
+    if (told == FLUENT_UNKNOWN_LOCALE) {
+        // A locale that is known says whether there is such a date.
+        const std::uint32_t is = fluent_write_date(
+            detail::bytes("en"), 2, &numbers_, detail::first(given), given.size(), made.put());
+        return is == FLUENT_READ ? expected<std::string>(iso()) : expected<std::string>(detail::status_of(is));
+    }
+    if (told != FLUENT_READ)
+        return detail::status_of(told);
+    return std::string(made.view());
+}
+
+namespace detail {
+
+// The dates of one answer. To the library each is a text that nobody knows: it is told again in the arguments of
+// functions, and in the answer it is replaced by the date as the locale writes it.
+class dates {
+public:
+    // The text that stands for a date.
+    std::string mark(const date &given) {
+        static const std::string secret = std::to_string(std::random_device{}()) + std::to_string(std::random_device{}());
+        dates_.push_back(given);
+        std::string made = std::string(bound) + secret + '-' + std::to_string(dates_.size() - 1) + std::string(bound);
+        marks_.push_back(made);
+        return made;
+    }
+
+    // The date that a text stands for, or a null pointer.
+    const date *found(std::string_view text) const noexcept {
+        for (std::size_t each = 0; each < marks_.size(); each++)
+            if (marks_[each] == text)
+                return &dates_[each];
+        return nullptr;
+    }
+
+    // A text in which each date is shown.
+    expected<std::string> shown(std::string text, std::string_view locale) const {
+        for (std::size_t each = 0; each < marks_.size(); each++) {
+            std::size_t at = text.find(marks_[each]);
+            if (at == text.npos)
+                continue;
+            const expected<std::string> made = dates_[each].try_text(locale);
+            if (!made)
+                return made.why();
+            for (; at != text.npos; at = text.find(marks_[each], at + made->size()))
+                text.replace(at, marks_[each].size(), *made);
+        }
+        return text;
+    }
+
+private:
+    // No text has this character, U+FDD0, by the rules of Unicode.
+    static constexpr std::string_view bound = "\xef\xb7\x90";
+
+    std::vector<date> dates_;
+    std::vector<std::string> marks_;
+};
+
+} // namespace detail
 
 // What a message passes to a function, as in `{ DATE("2026-11-28", style: "long") }`.
 struct call {
@@ -425,7 +659,7 @@ namespace detail {
 // arguments, and an object of the named ones.
 class call_reader {
 public:
-    explicit call_reader(std::string_view text) noexcept : rest_(text) {}
+    call_reader(std::string_view text, const dates &known) noexcept : rest_(text), known_(known) {}
 
     call read() {
         call made;
@@ -532,12 +766,15 @@ private:
         return text;
     }
 
-    // A text, a number `{"number":"1.50"}`, or null.
+    // A text, or the date that it stands for, a number `{"number":"1.50"}`, or null.
     value any() {
         if (rest_.substr(0, 4) == "null")
             return rest_.remove_prefix(4), value();
-        if (rest_.substr(0, 1) != "{")
-            return string();
+        if (rest_.substr(0, 1) != "{") {
+            std::string text = string();
+            const date *found = known_.found(text);
+            return found ? value(*found) : value(std::move(text));
+        }
         expect('{');
         string();
         expect(':');
@@ -547,7 +784,23 @@ private:
     }
 
     std::string_view rest_;
+    const dates &known_;
 };
+
+// The function `DATETIME` that each bundle has: a date with the options of a call, or no value if there is no date.
+inline value date_called(const call &asked) {
+    const value first = asked.at(std::size_t{0});
+    if (!first.date())
+        return value();
+    date made = *first.date();
+    for (const auto &[name, option] : asked.named) {
+        if (option.is_text())
+            made = made.with(name, option.text());
+        else if (const std::optional<double> number = option.number(); number && *number >= 1 && *number < 4)
+            made = made.with(name, static_cast<std::int64_t>(*number));
+    }
+    return made;
+}
 
 // The answers to the calls of one message so far. A list keeps each where it is.
 class answers {
@@ -555,6 +808,13 @@ public:
     void add(std::string_view call, value answer) {
         kept_.push_back(std::make_unique<kept>(kept{std::string(call), std::move(answer)}));
         list_.push_back(argument(kept_.back()->call, kept_.back()->answer).for_c());
+    }
+    // Adds a date, for which a text stands.
+    void add(std::string_view call, const value &answer, dates &known) {
+        if (answer.date())
+            add(call, known.mark(*answer.date()));
+        else
+            add(call, answer);
     }
 
     const FluentArgument *first() const noexcept { return detail::first(list_); }
@@ -635,6 +895,9 @@ public:
         auto made = std::make_unique<state>();
         made->functions = std::move(called);
         std::vector<FluentSource> names;
+        made->tells_dates = made->functions.emplace("DATETIME", detail::date_called).second;
+        if (!how.plain_numbers)
+            made->locale = how.locale;
         for (const auto &each : made->functions)
             names.push_back(detail::source(each.first));
         const std::vector<FluentSource> texts = detail::sources(sources);
@@ -717,6 +980,17 @@ private:
         // The memory of the last answer is used for the next.
         detail::text text, errors;
         fluent::functions functions;
+        // The locale that writes dates, and none if they are written plainly.
+        std::string locale;
+        // Whether `DATETIME` is that of each bundle, so that an argument that is no date is an error.
+        bool tells_dates = false;
+    };
+
+    // What the library takes of arguments, and what of that is in memory of its own.
+    struct passed {
+        std::vector<FluentArgument> list;
+        std::vector<std::unique_ptr<std::string>> marks;
+        detail::dates dates;
     };
 
     explicit bundle(std::unique_ptr<state> made) noexcept : state_(std::move(made)) {}
@@ -742,11 +1016,18 @@ private:
     }
 
     template <class Arguments>
-    static std::vector<FluentArgument> for_c(const Arguments &arguments) {
-        std::vector<FluentArgument> made;
-        made.reserve(arguments.size());
-        for (const argument &each : arguments)
-            made.push_back(each.for_c());
+    static passed for_c(const Arguments &arguments) {
+        passed made;
+        made.list.reserve(arguments.size());
+        for (const argument &each : arguments) {
+            made.list.push_back(each.for_c());
+            if (each.date()) {
+                made.marks.push_back(std::make_unique<std::string>(made.dates.mark(*each.date())));
+                made.list.back().kind = FLUENT_TEXT;
+                made.list.back().text = detail::bytes(*made.marks.back());
+                made.list.back().text_len = made.marks.back()->size();
+            }
+        }
         return made;
     }
 
@@ -775,20 +1056,35 @@ private:
     }
 
     // Formats a message. Functions are called while no turn is held, so they may ask this bundle.
-    expected<answer> ask(
-        std::string_view id, const std::vector<FluentArgument> &arguments, std::string_view attribute) const {
+    expected<answer> ask(std::string_view id, passed arguments, std::string_view attribute) const {
         if (!state_)
             return status::no_bundle;
         detail::answers answers;
+        std::vector<std::string> errors;
         for (;;) {
             detail::text text;
-            expected<answer> given = round(id, arguments, attribute, answers, text);
-            if (given || given.why() != status::call)
+            expected<answer> given = round(id, arguments.list, attribute, answers, text);
+            if (given) {
+                given->errors.insert(given->errors.begin(), errors.begin(), errors.end());
+                return shown(std::move(*given), arguments.dates);
+            }
+            if (given.why() != status::call)
                 return given;
-            const call asked = detail::call_reader(text.view()).read();
+            const call asked = detail::call_reader(text.view(), arguments.dates).read();
             const auto found = state_->functions.find(asked.name);
-            answers.add(text.view(), found == state_->functions.end() ? value() : found->second(asked));
+            const value made = found == state_->functions.end() ? value() : found->second(asked);
+            if (state_->tells_dates && asked.name == "DATETIME" && !made.date() && asked.at(std::size_t{0}).has_value())
+                errors.push_back("DATETIME(): the argument is no date");
+            answers.add(text.view(), made, arguments.dates);
         }
+    }
+
+    // An answer in which each date is shown.
+    expected<answer> shown(answer given, const detail::dates &dates) const {
+        expected<std::string> text = dates.shown(std::move(given.text), state_->locale);
+        if (!text)
+            return text.why();
+        return answer{std::move(*text), std::move(given.errors)};
     }
 
     // Asks the library once, with the answers so far.

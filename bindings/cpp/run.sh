@@ -1,8 +1,8 @@
 #!/bin/sh
 # Builds the program of README.md over the static library with each compiler for C++ that is there, as C++17, C++20 and C++23,
-# and lets no warning through; each has to print what the page says. Builds the tests of the folder `tests` with the sanitizers
-# for addresses and undefined behavior, and with the one for threads, and runs them; and the example notes.cpp, which has to
-# print `notes.expected`. A compiler without a sanitizer builds the tests without it.
+# and lets no warning through; each has to print what the page says. Builds the tests of the folder `tests` by each with the
+# sanitizers for addresses and undefined behavior, and with the one for threads, and runs them; and the example notes.cpp, which
+# has to print `notes.expected`. A compiler without a sanitizer builds the tests without it.
 set -eu
 here=$(cd "$(dirname "$0")" && pwd)
 root=$(cd "$here/../.." && pwd)
@@ -23,8 +23,7 @@ for compiler in g++ clang++; do
     if command -v $compiler >/dev/null; then compilers="$compilers $compiler"; fi
 done
 compilers=${compilers:- c++}
-first=${compilers# } last=${compilers##* }
-first=${first%% *}
+last=${compilers##* }
 
 sed '1,/^```cpp$/d;/^```$/,$d' "$here/README.md" >"$built/first.cpp"
 for compiler in $compilers; do
@@ -48,8 +47,10 @@ run_tests() {
     printf '%s' "$1, ${sanitizer:-without sanitizers}: "
     "$built/tests" "$root/examples/l10n"
 }
-run_tests "$first" address,undefined
-run_tests "$last" thread
+for compiler in $compilers; do
+    run_tests "$compiler" address,undefined
+    run_tests "$compiler" thread
+done
 
 build "$last" "$built/notes" -std=c++17 "$here/notes.cpp"
 for language in de en pl_PL.UTF-8 fr; do

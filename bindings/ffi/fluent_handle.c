@@ -291,6 +291,10 @@ uint32_t fluent_handle_tree(struct FluentHandle *handle, const char *source, siz
     return fluent_write_json(bytes_of(source), len, &handle->text);
 }
 
+uint32_t fluent_handle_nodes(struct FluentHandle *handle, const char *source, size_t len) {
+    return fluent_nodes(bytes_of(source), len, &handle->text);
+}
+
 uint32_t fluent_handle_occurrences(struct FluentHandle *handle, const char *source, size_t len) {
     return fluent_occurrences(bytes_of(source), len, &handle->text);
 }

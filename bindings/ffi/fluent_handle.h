@@ -100,10 +100,11 @@ uint32_t fluent_handle_attributes(struct FluentHandle *handle, const char *id, s
 uint32_t fluent_handle_variables(struct FluentHandle *handle, const char *id, size_t id_len);
 uint32_t fluent_handle_source_errors(struct FluentHandle *handle);
 
-/* Tools, which need no bundle: the text in the handle is then the tidy text of a source, its tree as JSON, or its occurrences, as
- * fluent_tidy, fluent_write_json and fluent_occurrences of fluent_c.h make them. */
+/* Tools, which need no bundle: the text in the handle is then the tidy text of a source, its tree as JSON, the nodes of
+ * its tree, or its occurrences, as fluent_tidy, fluent_write_json, fluent_nodes and fluent_occurrences of fluent_c.h make them. */
 uint32_t fluent_handle_tidy(struct FluentHandle *handle, const char *source, size_t len);
 uint32_t fluent_handle_tree(struct FluentHandle *handle, const char *source, size_t len);
+uint32_t fluent_handle_nodes(struct FluentHandle *handle, const char *source, size_t len);
 uint32_t fluent_handle_occurrences(struct FluentHandle *handle, const char *source, size_t len);
 
 /* The last text and its length, and the lines of its errors. Each ends in a byte 0, which isn't counted, is empty if there is

@@ -151,6 +151,8 @@ static void test_lists(void) {
     CHECK(shows(empty, "{\"body\":[],\"syntax\":\"2\",\"type\":\"Resource\"}"));
     CHECK(fluent_handle_occurrences(empty, TEXT("a = b\n")) == FLUENT_READ);
     CHECK(strstr(fluent_handle_text(empty), "\"name\":\"a\"") != NULL);
+    CHECK(fluent_handle_nodes(empty, TEXT("a = b\n")) == FLUENT_READ);
+    CHECK(shows(empty, "Identifier 0 1\nTextElement 4 5\nPattern 4 5\nMessage 0 5\n"));
     CHECK(fluent_handle_tree(empty, TEXT("\xff")) == FLUENT_NOT_UTF8);
     fluent_handle_free(empty);
     fluent_handle_free(handle);

@@ -2,7 +2,8 @@
  *
  * All of it is in this header, and is tested, not proved: each call makes one of fluent_c.h, which says what it returns. As
  * free does, fluent_free_text and fluent_bundle_free do nothing with NULL in a program that includes this header. It includes
- * fluent_calls.h, for functions of your program that messages call, and fluent_doubles.h, for arguments that are doubles.
+ * fluent_calls.h, for functions of your program that messages call, fluent_doubles.h, for arguments that are doubles, and
+ * fluent_dates.h, for dates.
  */
 #ifndef FLUENT_H
 #define FLUENT_H
@@ -27,7 +28,7 @@ static inline const char *fluent_status_text(uint32_t status) {
     case FLUENT_NO_PATTERN:
         return "the message has no value, or no attribute of the name";
     case FLUENT_BAD_ARGUMENT:
-        return "what was passed isn't valid: an argument's kind or decimal, the size of options, or the text of a call";
+        return "what was passed isn't valid: an argument's kind or decimal, the size of options, a date, or the text of a call";
     case FLUENT_NO_BUNDLE:
         return "there is no bundle";
     case FLUENT_HAS_ERRORS:
@@ -253,6 +254,11 @@ static inline uint32_t fluent_occurrences_of(const char *source, struct FluentTe
     return fluent_occurrences(fluent_bytes(source), fluent_len(source), made);
 }
 
+/* fluent_nodes. */
+static inline uint32_t fluent_nodes_of(const char *source, struct FluentText *made) {
+    return fluent_nodes(fluent_bytes(source), fluent_len(source), made);
+}
+
 /* A file. */
 static inline struct FluentFile fluent_file(const char *name, const char *text) {
     struct FluentFile file = {0};
@@ -300,5 +306,6 @@ static inline size_t fluent_bad_argument(
 
 #include "fluent_calls.h"
 #include "fluent_doubles.h"
+#include "fluent_dates.h"
 
 #endif

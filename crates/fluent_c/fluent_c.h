@@ -1,5 +1,5 @@
 /* Fluent for C: the texts of messages, from a bundle that you keep or line by line from sources; which of a program's
- * languages suit a user; what is wrong with the files of a catalog; and a source's tidy text, what it has, by names and
+ * languages suit a user; dates as a language writes them; what is wrong with the files of a catalog; and a source's tidy text, what it has, by names and
  * in numbers, and its tree as text.
  *
  * Link libfluent_c.a with a program that has malloc, realloc and free. A text is its first byte and its length in
@@ -53,7 +53,8 @@ uint32_t fluent_version(void);
 /* The message has no value, or no attribute of the name. */
 #define FLUENT_NO_PATTERN 5
 /* An argument's kind isn't one of those below, or its decimal is no number: fluent_bad_argument of fluent.h says which.
- * fluent_negotiate: there is no such strategy. A call that takes options: their size isn't one that the library knows. */
+ * fluent_negotiate: there is no such strategy. A call that takes options: their size isn't one that the library knows.
+ * fluent_write_date: the numbers make no date, no time or no offset. */
 #define FLUENT_BAD_ARGUMENT 6
 /* There is no bundle. */
 #define FLUENT_NO_BUNDLE 7
@@ -124,6 +125,18 @@ uint32_t fluent_write_json(const uint8_t *text, size_t len, struct FluentText *m
  * the keys. A stretch that can't be read has no lines, and the entries around it have theirs. It returns the numbers of
  * fluent_parse. */
 uint32_t fluent_occurrences(const uint8_t *text, size_t len, struct FluentText *made);
+
+/* Lists the nodes of a source's tree, junk included, with their places: a line for each node, its kind and the offsets of
+ * its first byte and of the one after its last, after the lines of the nodes in it. `a = b` has these:
+ *
+ *     Identifier 0 1
+ *     TextElement 4 5
+ *     Pattern 4 5
+ *     Message 0 5
+ *
+ * The nodes in a node are those before it that begin where it does or later, and are in no other. docs/reference/nodes.md
+ * has the kinds. It returns the numbers of fluent_parse. */
+uint32_t fluent_nodes(const uint8_t *text, size_t len, struct FluentText *made);
 
 /* A source: its first byte, and its length in bytes. */
 struct FluentSource {
@@ -504,6 +517,43 @@ uint32_t fluent_bundle_errors(struct FluentBundle *bundle, struct FluentText *re
 
 /* Frees a bundle, if there is one. There is none then. `bundle` isn't null, but in a program that includes fluent.h. */
 void fluent_bundle_free(struct FluentBundle *bundle);
+
+/* A date of the Gregorian calendar, with its time if it has one, and the offset of its clock from UTC if that is known. Your
+ * program converts time zones: these are the numbers that the clock shows. fluent.h makes one of a `struct tm` or a `time_t`. */
+struct FluentDate {
+    /* How many seconds the clock is ahead of UTC, less than a day in either direction. It counts if `has_offset` is true. */
+    int32_t offset FLUENT_ZERO;
+    /* The part of the second, from 0 to 999999999. As the hour, the minute and the second it counts if `has_time` is true. */
+    uint32_t nanosecond FLUENT_ZERO;
+    /* The year, from -9999 to 9999; 0 is 1 BC. */
+    int16_t year FLUENT_ZERO;
+    /* The month, from 1 to 12, and the day of the month, from 1. */
+    uint8_t month FLUENT_ZERO;
+    uint8_t day FLUENT_ZERO;
+    /* The hour, from 0 to 23, and the minute and the second, from 0 to 59. */
+    uint8_t hour FLUENT_ZERO;
+    uint8_t minute FLUENT_ZERO;
+    uint8_t second FLUENT_ZERO;
+    bool has_time FLUENT_ZERO;
+    bool has_offset FLUENT_ZERO;
+};
+
+/* Writes a date as the language of a locale does, with the options of DATETIME: arguments of these names, such as `dateStyle`,
+ * which are texts, but for `fractionalSecondDigits`, which is a number. docs/reference/dates.md has them. An option that isn't
+ * there does nothing, and neither does a value that an option doesn't have. Of options with one name the last counts.
+ *
+ * It returns FLUENT_READ; FLUENT_UNKNOWN_LOCALE if CLDR doesn't know the locale's language, as that of the empty tag;
+ * FLUENT_BAD_ARGUMENT if the numbers make no date, no time or no offset, or for an option that fluent_bundle_format wouldn't
+ * take; FLUENT_NOT_UTF8 if an option isn't UTF-8; or FLUENT_NO_MEMORY. `locale` and `options` need pointers that aren't null,
+ * also if a length is 0. */
+uint32_t fluent_write_date(
+    const uint8_t *locale,
+    size_t locale_len,
+    const struct FluentDate *date,
+    const struct FluentArgument *options,
+    size_t option_count,
+    struct FluentText *made
+);
 
 #ifdef __cplusplus
 }

@@ -86,10 +86,22 @@ function hint(given) {
   return made;
 }
 
+/** What a call takes, and which part of it is being typed. */
+function signatures(given) {
+  if (!given) return null;
+  const made = new vscode.SignatureHelp();
+  made.signatures = given.signatures.map((each) => {
+    const signature = new vscode.SignatureInformation(each.label);
+    signature.parameters = each.parameters.map(({ label }) => new vscode.ParameterInformation(label));
+    return signature;
+  });
+  return Object.assign(made, { activeSignature: given.activeSignature, activeParameter: given.activeParameter });
+}
+
 const lens = (given) => new vscode.CodeLens(range(given.range), { title: given.command.title, command: given.command.command });
 const highlight = (given) => new vscode.DocumentHighlight(range(given.range), given.kind - 1);
 
 module.exports = {
   toPosition, toRange, range, location, textEdit, diagnostic, workspaceEdit, hover, completion, symbol,
-  symbolOfWorkspace, action, selection, fold, hint, lens, highlight,
+  symbolOfWorkspace, action, selection, fold, hint, lens, highlight, signatures,
 };

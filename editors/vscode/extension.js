@@ -82,7 +82,7 @@ class Server {
       watcher.onDidChange(changed(2)),
       watcher.onDidDelete(changed(3)),
       workspace.onDidOpenTextDocument((document) => this.open(document)),
-      workspace.onDidChangeTextDocument(({ document }) => this.change(document)),
+      workspace.onDidChangeTextDocument(({ document, contentChanges }) => this.change(document, contentChanges)),
       workspace.onDidCloseTextDocument((document) => this.tell("textDocument/didClose", document)),
       workspace.onDidSaveTextDocument((document) => this.tell("textDocument/didSave", document)),
       workspace.onDidChangeWorkspaceFolders(({ added, removed }) => {
@@ -111,10 +111,11 @@ class Server {
     this.connection.notify("textDocument/didOpen", { textDocument: opened });
   }
 
-  change(document) {
+  change(document, changes) {
     if (!isOurs(document)) return;
     const textDocument = { uri: document.uri.toString(), version: document.version };
-    this.connection.notify("textDocument/didChange", { textDocument, contentChanges: [{ text: document.getText() }] });
+    const contentChanges = changes.map(({ range, text }) => ({ range: convert.toRange(range), text }));
+    this.connection.notify("textDocument/didChange", { textDocument, contentChanges });
   }
 
   tell(method, document) {

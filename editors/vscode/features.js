@@ -58,6 +58,17 @@ function register(ask, can) {
       provideDocumentFormattingEdits: (document, options, token) =>
         ask("textDocument/formatting", { ...named(document), options }, token).then(listed(convert.textEdit)),
     }),
+    languages.registerDocumentRangeFormattingEditProvider(SELECTOR, {
+      provideDocumentRangeFormattingEdits: (document, range, options, token) => {
+        const asked = { ...named(document), range: convert.toRange(range), options };
+        return ask("textDocument/rangeFormatting", asked, token).then(listed(convert.textEdit));
+      },
+    }),
+    languages.registerSignatureHelpProvider(SELECTOR, {
+      provideSignatureHelp: (document, position, token) =>
+        ask("textDocument/signatureHelp", { ...named(document), position: convert.toPosition(position) }, token)
+          .then(convert.signatures),
+    }, can.signatureHelpProvider),
     languages.registerFoldingRangeProvider(SELECTOR, { provideFoldingRanges: of("textDocument/foldingRange", listed(convert.fold)) }),
     languages.registerCodeLensProvider(SELECTOR, { provideCodeLenses: of("textDocument/codeLens", listed(convert.lens)) }),
     languages.registerSelectionRangeProvider(SELECTOR, {

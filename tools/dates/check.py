@@ -8,6 +8,7 @@ import json, random, re, subprocess, sys, collections, time
 from pathlib import Path
 
 HERE = Path(__file__).resolve().parent
+ROOT = HERE.parents[1]
 sys.path.insert(0, str(HERE.parent))
 import definition as dates
 from definition import Moment

@@ -114,7 +114,7 @@ EXAMPLES = {
          'tests/more_rows/src/**/*.rt.txt'],
     'rust': ['crates/example*/src/**/*.rt', 'bindings/rust/README.md'],
     'c': ['*s/c/*.c', 'bindings/c/README.md'],
-    'python': ['examples/python/*.py', 'bindings/python/README.md'],
+    'python': ['examples/python/*.py', 'bindings/python/README.md', 'docs/python/*.md'],
 }
 # What parts a program's `main.rt` from its module in the crate `examples`: a line of root files, and that its `main` is called.
 OF_ROOT_FILE = re.compile(r'^#!\[tactic\(auto\)\]$|^pub (?=fn main\()')

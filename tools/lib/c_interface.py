@@ -28,7 +28,8 @@ class Interface(NamedTuple):
 
 
 # What a type of Rust is in C. A pointer to bytes that may change is the library's own.
-SCALARS = {'bool': 'bool', 'usize': 'size_t', 'u8': 'uint8_t', 'u32': 'uint32_t', 'u64': 'uint64_t', 'i64': 'int64_t'}
+SCALARS = {'bool': 'bool', 'usize': 'size_t', 'u8': 'uint8_t', 'u32': 'uint32_t', 'u64': 'uint64_t', 'i16': 'int16_t', 'i32': 'int32_t',
+           'i64': 'int64_t'}
 OWNED = 'void *'
 # A struct for C.
 REPR_C = r'^#\[repr\(C\)\]\n(?:#\[[^\n]*\n)*pub struct (\w+)(?:<.*?>)? \{(.*?)^\}'
@@ -122,7 +123,8 @@ def of_rust(text: str) -> Interface:
 
 # What types of ctypes are in C, but for `const`, which they haven't.
 CTYPES = {ctypes.c_char_p: 'uint8_t *', ctypes.c_void_p: OWNED, ctypes.c_bool: 'bool', ctypes.c_size_t: 'size_t',
-          ctypes.c_uint32: 'uint32_t', ctypes.c_int64: 'int64_t', ctypes.c_uint64: 'uint64_t', None: 'void'}
+          ctypes.c_uint8: 'uint8_t', ctypes.c_int16: 'int16_t', ctypes.c_int32: 'int32_t', ctypes.c_uint32: 'uint32_t',
+          ctypes.c_int64: 'int64_t', ctypes.c_uint64: 'uint64_t', None: 'void'}
 
 
 def of_ctypes(kind: object) -> str:

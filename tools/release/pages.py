@@ -17,6 +17,14 @@ from pathlib import Path
 DOC = Path('share/doc/kozhvadi')
 CARGO = Path('share/cargo/kozhvadi')
 EXAMPLES = ('functions', 'languages', 'messages')
+PROGRAMS = (
+    'bindings/cpp/notes.cpp',
+    'bindings/ffi/inbox.lua',
+    'bindings/ffi/inbox.go',
+    'bindings/rust/examples/server.rs',
+    'examples/python/middleware.py',
+    'examples/python/migrate.py',
+)
 
 # What a page of the repository begins with in a release, up to its first section.
 BEGINNINGS = {
@@ -32,14 +40,14 @@ LINK = re.compile(r'!?\[([^\]]*)\]\(([^)\s#]+)(#[^)\s]*)?\)')
 
 def released(root: Path) -> dict[str, Path]:
     """The files of the repository that a release has, and where it has them."""
-    docs = ('docs', *(f'docs/{name}' for name in ('command', 'library', 'rattle', 'reference')))
+    docs = ('docs', *(f'docs/{name}' for name in ('command', 'c-and-cpp', 'python', 'rattle', 'reference')))
     bindings = ('bindings', *(f'bindings/{name}' for name in ('c', 'cpp', 'ffi', 'python')))
     pages = [page for folder in docs + bindings for page in root.glob(f'{folder}/*.md') if page.name not in OF_THE_REPOSITORY]
     patterns = ('*.ftl', 'l10n/*/main.ftl', 'notes/*/notes.ftl')
     sources = [path for pattern in patterns for path in root.glob(f'examples/{pattern}')]
     places = {str(path.relative_to(root)): DOC / path.relative_to(root) for path in sorted(pages + sources)}
     places |= {f'bindings/c/{name}.c': DOC / 'examples' / f'{name}.c' for name in EXAMPLES}
-    for example in ('bindings/cpp/notes.cpp', 'bindings/ffi/inbox.lua', 'bindings/ffi/inbox.go', 'examples/python/migrate.py'):
+    for example in PROGRAMS:
         places[example] = DOC / 'examples' / Path(example).name
     headers = [*root.glob('crates/fluent_c/*.h'), root / 'bindings/ffi/fluent_handle.h', root / 'bindings/cpp/fluent.hpp']
     places |= {str(path.relative_to(root)): Path('include') / path.name for path in headers}

@@ -65,3 +65,15 @@ AT(FluentArgument, text_len, 24);
 AT(FluentArgument, integer, 32);
 AT(FluentArgument, unsigned_integer, 40);
 AT(FluentArgument, kind, 48);
+
+SIZE(FluentDate, 20);
+AT(FluentDate, offset, 0);
+AT(FluentDate, nanosecond, 4);
+AT(FluentDate, year, 8);
+AT(FluentDate, month, 10);
+AT(FluentDate, day, 11);
+AT(FluentDate, hour, 12);
+AT(FluentDate, minute, 13);
+AT(FluentDate, second, 14);
+AT(FluentDate, has_time, 15);
+AT(FluentDate, has_offset, 16);

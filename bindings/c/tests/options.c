@@ -53,7 +53,7 @@ static bool is_made(const struct FluentSource *source, const struct Row *row, bo
     return is_status && is_bundle && blocks_in_use() == blocks;
 }
 
-/* A source that nests deep, within the usual budget and a smaller one. */
+/* Sources that nest deep, within the usual budget and a smaller one, and past the usual one. */
 static void try_depths(struct Tally *tally) {
     struct Bytes source = nested(MOST_LEVELS);
     const struct FluentSource deep = {source.at, source.len};
@@ -62,6 +62,10 @@ static void try_depths(struct Tally *tally) {
     count_try(tally, "the last level", fluent_bundle_new_with(&deep, 1, &options, &bundle) == FLUENT_READ);
     options.stack = 786432;
     count_try(tally, "a smaller budget", fluent_bundle_new_with(&deep, 1, &options, &bundle) == FLUENT_NO_MEMORY && bundle.held);
+    source = nested(MOST_LEVELS + 1);
+    const struct FluentSource deeper = {source.at, source.len};
+    options.stack = 0;
+    count_try(tally, "a level more", fluent_bundle_new_with(&deeper, 1, &options, &bundle) == FLUENT_NO_MEMORY && bundle.held);
     fluent_bundle_free(&bundle);
 }
 

@@ -22,6 +22,11 @@ static uint32_t parse(struct Kept *kept) { return fluent_parse(SOURCES[0].text, 
 static uint32_t parse_runtime(struct Kept *kept) { return fluent_parse_runtime(SOURCES[0].text, SOURCES[0].len, &kept->counts); }
 static uint32_t write_tree(struct Kept *kept) { return fluent_write(SOURCES[0].text, SOURCES[0].len, true, &kept->text); }
 static uint32_t write_json(struct Kept *kept) { return fluent_write_json(SOURCES[0].text, SOURCES[0].len, &kept->text); }
+static uint32_t write_date(struct Kept *kept) {
+    static const struct FluentDate date = {.year = 2026, .month = 11, .day = 28, .hour = 20, .has_time = true};
+    static const struct FluentArgument style = {.name = AT("timeStyle"), .name_len = 9, .text = AT("full"), .text_len = 4, .kind = FLUENT_TEXT};
+    return fluent_write_date(TEXT("en"), &date, &style, 1, &kept->text);
+}
 static uint32_t outline(struct Kept *kept) { return fluent_outline(SOURCES[0].text, SOURCES[0].len, &kept->text, &kept->counts); }
 static uint32_t answer(struct Kept *kept) {
     return fluent_answer(SOURCES, 2, TEXT("pl"), true, false, TEXT("welcome\tname=Jane\nbroken\n"), &kept->text);
@@ -108,6 +113,9 @@ static uint32_t find_damage(struct Kept *kept) {
 static uint32_t find_occurrences(struct Kept *kept) {
     return fluent_occurrences(TEXT("a = { $b } { -c(d: 1) } { F() }\ng@Rb@ge\n-e = { a.f }\n .g = h\n"), &kept->text);
 }
+static uint32_t find_nodes(struct Kept *kept) {
+    return fluent_nodes(TEXT("# c\na = { $b ->\n *[d] e\n }\n .f = { -c(d: 1) } { F() }\ng@Rb@ge\n"), &kept->text);
+}
 static uint32_t has(struct Kept *kept) { return fluent_bundle_has(&kept->bundle, TEXT("welcome"), TEXT("")); }
 
 static const struct {
@@ -118,6 +126,7 @@ static const struct {
     {"fluent_parse_runtime", parse_runtime},
     {"fluent_write", write_tree},
     {"fluent_write_json", write_json},
+    {"fluent_write_date", write_date},
     {"fluent_outline", outline},
     {"fluent_answer", answer},
     {"fluent_answer_plain", answer_plain},
@@ -141,6 +150,7 @@ static const struct {
     {"fluent_tidy", tidy},
     {"fluent_tidy of damage", find_damage},
     {"fluent_occurrences", find_occurrences},
+    {"fluent_nodes", find_nodes},
 };
 
 static const struct Bytes TEXT_BEFORE = BYTES("\xe2\x81\xa8{$absent}\xe2\x81\xa9 and {nothing}");

@@ -60,7 +60,9 @@ bool try_linting(void);
 bool try_listing(void);
 bool try_options(void);
 bool try_occurrences(void);
+bool try_nodes(void);
 bool try_tidying(void);
+bool try_dates(void);
 bool try_refusals(void);
 
 #endif

@@ -7,6 +7,7 @@ int main(int count, char **words) {
         return 2;
     test_bundles();
     test_functions();
+    test_dates();
     test_doubles();
     test_languages(words[1]);
     test_threads();

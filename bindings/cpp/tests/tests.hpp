@@ -5,6 +5,7 @@
 
 void test_bundles();
 void test_functions();
+void test_dates();
 void test_doubles();
 // The folder has the folders of languages.
 void test_languages(const std::string &folder);

@@ -1,6 +1,6 @@
-"""The functions that come with the library: one table of what is known of each without a call.
+"""The functions that a bundle has: one table of what is known of each without a call.
 
-The library has the same rows in `crates/lint_flaws/src/builtins.rt`, and `tools/house/check.py` compares them.
+The library has the rows of `BUILTINS` in `crates/lint_flaws/src/builtins.rt`, too, and `tools/house/check.py` compares them.
 """
 
 from __future__ import annotations
@@ -9,6 +9,8 @@ from typing import NamedTuple, Union
 
 # What an option takes: a number, any text, or one of these texts.
 A_NUMBER, ANY_TEXT = "a number", "any text"
+# What a first argument has to be that isn't a number.
+A_DATE = "a date"
 Takes = Union[str, tuple[str, ...]]
 
 
@@ -42,6 +44,15 @@ class Builtin(NamedTuple):
         """Whether the function returns a number that it is given, so that a select on it chooses by plural categories."""
         return self.operand == A_NUMBER
 
+    @property
+    def is_of_date(self) -> bool:
+        """Whether the function returns a date that it is given."""
+        return self.operand == A_DATE
+
+
+_STYLES = ("full", "long", "medium", "short")
+_WIDTHS = ("narrow", "short", "long")
+_DIGITS = ("numeric", "2-digit")
 
 BUILTINS = {
     "NUMBER": Builtin(
@@ -60,3 +71,28 @@ BUILTINS = {
         },
     ),
 }
+
+# The function that each bundle of the package has besides.
+DATETIME = Builtin(
+    A_DATE,
+    {
+        "dateStyle": Option(_STYLES),
+        "timeStyle": Option(_STYLES),
+        "hour12": Option(("true", "false")),
+        "hourCycle": Option(("h11", "h12", "h23", "h24")),
+        "weekday": Option(_WIDTHS),
+        "era": Option(_WIDTHS),
+        "year": Option(_DIGITS),
+        "month": Option((*_DIGITS, *_WIDTHS)),
+        "day": Option(_DIGITS),
+        "dayPeriod": Option(_WIDTHS),
+        "hour": Option(_DIGITS),
+        "minute": Option(_DIGITS),
+        "second": Option(_DIGITS),
+        "fractionalSecondDigits": Option(A_NUMBER, "3"),
+        "timeZoneName": Option(("short", "long", "shortOffset", "longOffset", "shortGeneric", "longGeneric")),
+    },
+)
+
+# What is known of all of these.
+KNOWN = {**BUILTINS, "DATETIME": DATETIME}

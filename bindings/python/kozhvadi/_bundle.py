@@ -2,24 +2,23 @@
 
 from __future__ import annotations
 
-import ctypes
 import os
 import re
 import resource
 import threading
 import warnings
-import weakref
 from collections.abc import Callable, Iterable
 from pathlib import Path
 from types import TracebackType
 from typing import NoReturn, SupportsIndex, Union
 
+from . import _dates
 from . import _library as c
 from ._answers import Answer, resolver_errors
 from ._errors import FluentError, FluentWarning, MissingMessageError, SourceError, UnknownLocaleError
 from ._extension import calls_type
-from ._functions import Answers, Called, Functions, called_of, functions_of
-from ._locks import new_lock
+from ._functions import Answers, Called, Functions, called_of, functions_of, is_rewritten, told_apart, with_dates
+from ._kept import Asking, Kept, kept_of, read
 from ._numbers import FluentNumber
 from ._reports import Sources, source_errors, too_deep
 from ._rewriting import rewritten
@@ -135,21 +134,25 @@ class Bundle:
         tag = b"" if locale is None else encoded(locale, "the locale")
         if not callable(formatter):
             raise TypeError(f"the formatter can't be called: {type(formatter).__name__}")
-        self._lock, self._handle = new_lock(), c.FluentBundle()
         self._spare: list[_Texts] = []
-        self._functions = functions_of(functions)
+        self._functions = with_dates(functions_of(functions), (text for _, text in named))
         self._called = called_of(self._functions, shows)
+        if formatter is str and numbers and tag:
+            formatter = _dates.formatter_of(tag)
         self._formatter, self._overriding, self._stack = formatter, bool(overriding), _budget(stack)
         self._locale, self._isolating, self._numbers = locale, bool(isolating), bool(numbers)
         self._errors: list[SourceError] = []
-        made = self._new(named, tag)
+        made, kept = self._new(named, tag)
         if made == c.NO_MEMORY:
             named = self._without_deep(named)
-            made = self._new(named, tag)
+            made, kept = self._new(named, tag)
         if made == c.UNKNOWN_LOCALE:
             raise UnknownLocaleError(f"the locale {locale!r} is no tag of a language")
         if made != c.READ:
             raise MemoryError("memory ran out")
+        if not self._is_rewritten():
+            # The texts are those that the other bundles have.
+            named = [(name, text) for (name, _), text in zip(named, kept.texts)]
         # The sources; whether nobody asked for `errors` yet; and whether the next answer warns of them.
         self._sources: Sources = named
         self._is_unread = True
@@ -157,17 +160,17 @@ class Bundle:
         # What shows numbers with options: the same messages with each value shown by a call, and a number by its options.
         self._showing: Bundle | None = None
         self._shown: dict[str, Bundle] = {}
-        self._free = weakref.finalize(self, c.library.fluent_bundle_free, self._handle)
+        # It is another one, of nothing, once the bundle is closed. What is here is under its lock, too.
+        self._kept, self._lock = kept, kept.lock
         # The extension takes numbers without their options, so it isn't for a bundle that shows them.
-        new_calls, address = None if shows else calls_type, ctypes.addressof(self._handle)
-        self._calls = new_calls(address, self._handle, self._lock) if new_calls else None
+        new_calls = None if shows else calls_type
+        self._calls = new_calls(kept.address, kept, kept.lock) if new_calls else None
 
-    def _new(self, named: Sources, tag: bytes) -> int:
-        """Makes the bundle that the library keeps, and gives its status."""
-        if self._called:
-            texts = [self._as_called(text) for _, text in named]
-            return self._read_calling(texts, tag)
-        return self._read([text for _, text in named], tag, self._isolating, self._handle, self._numbers)
+    def _new(self, named: Sources, tag: bytes) -> tuple[int, Kept]:
+        """What the library keeps of the sources, and its status."""
+        functions = [name.encode() for name in self._called]
+        asking = Asking(tag, self._isolating, self._overriding, self._numbers, self._stack, functions)
+        return kept_of([self._as_called(text) for _, text in named], asking)
 
     def _as_called(self, text: bytes) -> bytes:
         """A source in which functions have the names that the library calls."""
@@ -176,24 +179,7 @@ class Bundle:
         return rewritten(text.decode(), self._functions, self._called.shows is not None).encode()
 
     def _is_rewritten(self) -> bool:
-        return "NUMBER" in self._functions or self._called.shows is not None
-
-    def _read(self, texts: list[bytes], tag: bytes, isolating: bool, handle: c.FluentBundle, numbers: bool) -> int:
-        new = c.library.fluent_bundle_new_within if numbers else c.library.fluent_bundle_new_plain
-        array, count = c.sources(texts)
-        made: int = new(array, count, tag, len(tag), isolating, self._overriding, self._stack, handle)
-        return made
-
-    def _read_calling(self, texts: list[bytes], tag: bytes) -> int:
-        """Reads sources whose messages call functions."""
-        size = ctypes.sizeof(c.FluentBundleOptions)
-        options = c.FluentBundleOptions(
-            size, tag, len(tag), self._stack, self._isolating, self._overriding, not self._numbers
-        )
-        array, count = c.sources(texts)
-        names, named = c.sources([name.encode() for name in self._called])
-        made: int = c.library.fluent_bundle_new_calling(array, count, options, names, named, self._handle)
-        return made
+        return is_rewritten(self._functions, self._called.shows is not None)
 
     def _that_shows(self) -> Bundle:
         """A bundle of the same messages that shows numbers by all their options, which is made if it isn't there."""
@@ -239,10 +225,8 @@ class Bundle:
 
     def _is_read(self, text: bytes) -> bool:
         """Whether the library can read a source."""
-        alone = c.FluentBundle()
-        made = self._read([text], b"", True, alone, False)
-        c.library.fluent_bundle_free(alone)
-        return made == c.READ
+        alone = Kept([])
+        return read([text], Asking(b"", True, self._overriding, False, self._stack, []), alone.handle) == c.READ
 
     def format(self, id: str, attribute: str | None = None, /, **arguments: object) -> Answer:
         """The text of a message's value, or of its first attribute of a name, for these arguments.
@@ -280,23 +264,25 @@ class Bundle:
         """
         key = encoded(id, "the id")
         name = b"" if attribute is None else encoded(attribute, "the name of the attribute")
-        array, count = arguments_of(arguments, formatter, functions.shows is None)
-        answers = Answers(functions, formatter, arguments) if functions else None
+        given, dates = told_apart(arguments, formatter) if functions.shows else (arguments, {})
+        array, count = arguments_of(given, formatter, functions.shows is None)
+        answers = Answers(functions, formatter, given, dates) if functions else None
         # An answer that comes up meanwhile, in a function, a signal handler or another thread, has other texts.
         try:
             texts = self._spare.pop()
         except IndexError:
             texts = _Texts()
         while True:
-            with self._lock:
+            kept = self._kept
+            with kept.lock:
                 answered: int
                 if answers is None:
                     answered = c.library.fluent_bundle_format(
-                        self._handle, key, len(key), name, len(name), array, count, texts.text, texts.errors
+                        kept.handle, key, len(key), name, len(name), array, count, texts.text, texts.errors
                     )
                 else:
                     answered = c.library.fluent_bundle_call(
-                        self._handle, key, len(key), name, len(name), array, count, *answers.given(),
+                        kept.handle, key, len(key), name, len(name), array, count, *answers.given(),
                         texts.text, texts.errors, texts.call,
                     )
             if answers is None or answered != c.CALL:
@@ -326,8 +312,9 @@ class Bundle:
         """The same. The extension has it too."""
         key = encoded(id, "the id")
         name = b"" if attribute is None else encoded(attribute, "the name of the attribute")
-        with self._lock:
-            found: int = c.library.fluent_bundle_has(self._handle, key, len(key), name, len(name))
+        kept = self._kept
+        with kept.lock:
+            found: int = c.library.fluent_bundle_has(kept.handle, key, len(key), name, len(name))
         return found
 
     def __contains__(self, key: object) -> bool:
@@ -384,10 +371,10 @@ class Bundle:
 
     def _list(self, call: Callable[..., int], *of: object) -> tuple[int, list[str]]:
         """The status of a call that lists, and the lines of its text."""
-        text = c.FluentText()
+        text, kept = c.FluentText(), self._kept
         try:
-            with self._lock:
-                listed = call(self._handle, *of, text)
+            with kept.lock:
+                listed = call(kept.handle, *of, text)
             return listed, c.lines_of(text)
         finally:
             c.library.fluent_free_text(text)
@@ -407,15 +394,22 @@ class Bundle:
             return list(self._errors)
 
     def _report(self) -> list[str]:
-        if self._is_rewritten():
-            # The places are those of the sources as they are.
-            texts = [text.decode() for _, text in self._sources]
-            with Bundle(texts, overriding=self._overriding, stack=self._stack) as bundle:
-                return bundle._report()
-        listed, lines = self._list(c.library.fluent_bundle_errors)
+        listed, lines = self._report_as_is() if self._is_rewritten() else self._list(c.library.fluent_bundle_errors)
         if listed != c.READ:
             self._refuse(listed, "the report")
         return lines
+
+    def _report_as_is(self) -> tuple[int, list[str]]:
+        """The status of the report and its lines, with the places of the sources before they are rewritten."""
+        alone, text = Kept([]), c.FluentText()
+        try:
+            asking = Asking(b"", True, self._overriding, False, self._stack, [])
+            listed = read([source for _, source in self._sources], asking, alone.handle)
+            if listed == c.READ:
+                listed = c.library.fluent_bundle_errors(alone.handle, text)
+            return listed, c.lines_of(text)
+        finally:
+            c.library.fluent_free_text(text)
 
     def _hush(self) -> None:
         """Warns of no error: the program reports them in another way, or wants none of them."""
@@ -436,7 +430,9 @@ class Bundle:
     def close(self) -> None:
         """Frees the bundle. It can't be asked then."""
         with self._lock:
-            self._free()
+            self._kept = Kept([])
+            if self._calls:
+                self._calls.close()
             for bundle in [*self._shown.values(), *([self._showing] if self._showing else [])]:
                 bundle.close()
         self._spare.clear()

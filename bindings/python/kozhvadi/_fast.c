@@ -33,9 +33,10 @@ struct Calls {
     struct Found *found;
     PyObject *acquire;
     PyObject *release;
-    /* The object that has the bundle in it. */
+    /* The object that has the bundle in it, and the bundle, or that which is none once these are closed. */
     PyObject *owner;
     struct FluentBundle *bundle;
+    struct FluentBundle none;
     struct FluentText text;
     struct FluentText errors;
     struct FluentText call;
@@ -344,6 +345,18 @@ static PyObject *has(PyObject *self, PyObject *const *given, Py_ssize_t count) {
     return lock(calls->release) ? PyLong_FromUnsignedLong(found) : NULL;
 }
 
+/* close(): from now on there is no bundle. The one that was asked may be that of others. */
+static PyObject *close_calls(PyObject *self, PyObject *none) {
+    (void)none;
+    struct Calls *calls = (struct Calls *)self;
+    calls->bundle = &calls->none;
+    PyObject *owner = calls->owner;
+    Py_INCREF(Py_None);
+    calls->owner = Py_None;
+    Py_DECREF(owner);
+    Py_RETURN_NONE;
+}
+
 static PyObject *new_calls(PyTypeObject *type, PyObject *arguments, PyObject *keywords) {
     PyObject *address, *owner, *locks;
     if (keywords && PyDict_Size(keywords)) {
@@ -387,6 +400,7 @@ static void free_calls(PyObject *self) {
 static PyMethodDef methods[] = {
     {"format", (PyCFunction)(void (*)(void))format, METH_FASTCALL, NULL},
     {"has", (PyCFunction)(void (*)(void))has, METH_FASTCALL, NULL},
+    {"close", close_calls, METH_NOARGS, NULL},
     {NULL, NULL, 0, NULL},
 };
 

@@ -1,4 +1,3 @@
-import ctypes
 import threading
 
 from ._answers import Answer
@@ -6,7 +5,7 @@ from ._functions import Called
 from ._values import Formatter
 
 class Calls:
-    def __new__(cls, address: int, bundle: ctypes.Structure, lock: threading.RLock, /) -> Calls: ...
+    def __new__(cls, address: int, owner: object, lock: threading.RLock, /) -> Calls: ...
     def format(
         self,
         id: str,
@@ -17,3 +16,4 @@ class Calls:
         /,
     ) -> Answer | int: ...
     def has(self, id: str, attribute: str | None, /) -> int: ...
+    def close(self) -> None: ...

@@ -4,11 +4,13 @@ from __future__ import annotations
 
 import json
 import re
+import secrets
 import threading
-from collections.abc import Callable, Mapping
+from collections.abc import Callable, Iterable, Mapping
 from decimal import Decimal
 from typing import Any
 
+from . import _dates
 from . import _library as c
 from ._errors import ResolverError, raised_by
 from ._numbers import FluentNumber, NumberFormatOptions, fluent_number
@@ -56,6 +58,18 @@ def never_called(name: str) -> str | None:
     return None
 
 
+def with_dates(functions: dict[str, Callable[..., Any]], texts: Iterable[bytes]) -> dict[str, Callable[..., Any]]:
+    """The functions of a program, and `DATETIME` if the sources may call it and it isn't among them."""
+    if "DATETIME" in functions or not any(b"DATETIME" in text for text in texts):
+        return functions
+    return {**functions, "DATETIME": _dates.called}
+
+
+def is_rewritten(functions: Functions, shows: bool) -> bool:
+    """Whether sources are rewritten, so that a call that is shown has another name than one that is an argument."""
+    return shows or "NUMBER" in functions or functions.get("DATETIME") is _dates.called
+
+
 class Called(dict[str, Callable[..., Any]]):
     """The functions of a bundle by the names that its sources call. `shows` shows a number by all its options."""
 
@@ -66,7 +80,7 @@ def called_of(functions: Functions, shows: Callable[[FluentNumber], str] | None 
     """Functions by the names that rewritten sources call. With `shows` values are shown by calls."""
     own = {f"NUMBER{IS_OWN}" if name == "NUMBER" else name: function for name, function in functions.items()}
     called = Called(own)
-    if shows or "NUMBER" in functions:
+    if is_rewritten(functions, shows is not None):
         called.update({f"{name}{IS_SHOWN}": function for name, function in functions.items()})
     if shows:
         called.shows = shows
@@ -91,9 +105,17 @@ def _number(value: Any = None, *_others: Any, **options: Any) -> Any:
 class Answers:
     """The answers to the calls that a message met, and the errors of those whose function raised something."""
 
-    def __init__(self, functions: Called, formatter: Formatter, arguments: Mapping[str, object]) -> None:
+    def __init__(
+        self,
+        functions: Called,
+        formatter: Formatter,
+        arguments: Mapping[str, object],
+        dates: Mapping[str, object] | None = None,
+    ) -> None:
+        """`dates` are those in whose place the arguments have texts, by these texts."""
         self._functions, self._formatter, self._arguments = functions, formatter, arguments
         self._made: list[Made] = []
+        self._dates = dates or {}
         # The objects that texts and digits stand for, once a function is called.
         self._objects: dict[tuple[int, str], object] | None = None
         self.errors: list[ResolverError] = []
@@ -156,19 +178,28 @@ class Answers:
             if is_shown:
                 return c.TEXT, self._functions.shows(value).encode()
         kind, text = kind_and_text(what, value, self._formatter, options_count=False)
-        if not isinstance(value, (str, int, float, Decimal)) or isinstance(value, FluentNumber):
+        if _is_object(value) and not (is_shown and _dates.is_date(value)):
             self._known()[_key(kind, text)] = value
         return kind, encoded(text, "the answer of", what)
 
     def _known(self) -> dict[tuple[int, str], object]:
         """The objects that were passed, by the texts and digits that they have in the library."""
         if self._objects is None:
-            self._objects = {}
+            self._objects = {(c.TEXT, text): date for text, date in self._dates.items()}
             for name, value in self._arguments.items():
-                if not isinstance(value, (str, int, float, Decimal)) or isinstance(value, FluentNumber):
-                    kind, text = kind_and_text(name, value, self._formatter, options_count=False)
-                    self._objects[_key(kind, text)] = value
+                if _is_object(value):
+                    key = _key(*kind_and_text(name, value, self._formatter, options_count=False))
+                    if self._is_unclear(key, value):
+                        raise NeedsShowing
+                    self._objects[key] = value
         return self._objects
+
+    def _is_unclear(self, key: tuple[int, str], value: object) -> bool:
+        """Whether a date has the text of another argument, in a bundle that doesn't tell them apart."""
+        if self._functions.shows is not None or not _dates.is_date(value):
+            return False
+        others = (other for other in self._arguments.values() if other is not value)
+        return any(_text_of(other, self._formatter) == key[1] for other in others)
 
     def _argument(self, value: Any) -> Any:
         """An argument of a function: what was passed, or a text, or a number, which is an `int` if it has no point."""
@@ -179,6 +210,33 @@ class Answers:
             plain = Decimal(digits) if "." in digits else int(digits)
             return self._known().get(_key(c.DECIMAL, digits), plain)
         return self._known().get((c.TEXT, value), value)
+
+
+def _is_object(value: object) -> bool:
+    """Whether a function gets the object that was passed, and not a text or a number."""
+    return not isinstance(value, (str, int, float, Decimal)) or isinstance(value, FluentNumber)
+
+
+def _text_of(value: object, formatter: Formatter) -> object:
+    """The text of a text or a date."""
+    return formatter(value) if _dates.is_date(value) else value
+
+
+def told_apart(arguments: Mapping[str, object], formatter: Formatter) -> tuple[dict[str, object], dict[str, object]]:
+    """Arguments in which each date that has the text of another argument has one of its own, and the dates by these."""
+    texts = {
+        name: _text_of(value, formatter)
+        for name, value in arguments.items()
+        if isinstance(value, str) or _dates.is_date(value)
+    }
+    shown, given = list(texts.values()), dict(arguments)
+    dates: dict[str, object] = {}
+    for name, value in arguments.items():
+        if _dates.is_date(value) and shown.count(texts[name]) > 1:
+            # No text has this character by the rules of Unicode.
+            mark = f"\ufdd0{secrets.token_hex(8)}\ufdd0"
+            given[name], dates[mark] = mark, value
+    return given, dates
 
 
 def _key(kind: int, text: str) -> tuple[int, str]:

@@ -110,6 +110,21 @@ class FluentArgument(ctypes.Structure):
     ]
 
 
+class FluentDate(ctypes.Structure):
+    _fields_ = [
+        ("offset", ctypes.c_int32),
+        ("nanosecond", ctypes.c_uint32),
+        ("year", ctypes.c_int16),
+        ("month", ctypes.c_uint8),
+        ("day", ctypes.c_uint8),
+        ("hour", ctypes.c_uint8),
+        ("minute", ctypes.c_uint8),
+        ("second", ctypes.c_uint8),
+        ("has_time", ctypes.c_bool),
+        ("has_offset", ctypes.c_bool),
+    ]
+
+
 # Values by their names, and how many there are.
 Arguments = tuple["ctypes.Array[FluentArgument]", int]
 
@@ -174,13 +189,16 @@ def _load() -> ctypes.CDLL:
         "fluent_bundle_attributes": [bundle, ctypes.c_char_p, size, text],
         "fluent_bundle_variables": [bundle, ctypes.c_char_p, size, text],
         "fluent_bundle_errors": [bundle, text],
+        "fluent_write_date": [
+            ctypes.c_char_p, size, ctypes.POINTER(FluentDate), ctypes.POINTER(FluentArgument), size, text,
+        ],
         "fluent_negotiate": [
             ctypes.POINTER(FluentSource), size, ctypes.POINTER(FluentSource), size, ctypes.c_uint32,
             ctypes.POINTER(size), size, ctypes.POINTER(size),
         ],
         "fluent_parse": [ctypes.c_char_p, size, ctypes.POINTER(FluentCounts)],
         "fluent_occurrences": [ctypes.c_char_p, size, text],
-        "fluent_write_json": [ctypes.c_char_p, size, text],
+        "fluent_nodes": [ctypes.c_char_p, size, text],
         "fluent_lint": [
             ctypes.POINTER(FluentFile), size, ctypes.POINTER(FluentFile), size, ctypes.POINTER(FluentLintOptions), text,
         ],

@@ -98,7 +98,7 @@ def lint(
     1
 
     `reference` has the files that the catalog is translated from: the two are compared. `locale` names the language whose
-    plural categories are looked for, and `functions` are those of the program. With `notes` notes are reported, too, and
+    plural categories are looked for, and `functions` are those of the program but `NUMBER` and `DATETIME`. With `notes` notes are reported, too, and
     with `strict` warnings count for the status.
 
     Raises `UnknownLocaleError` if the locale is no tag of a language, `ValueError` if a name or a text can't be written in
@@ -106,7 +106,7 @@ def lint(
     """
     if isinstance(functions, (str, bytes)):
         raise TypeError(f"functions is a list of names, and not one: {functions!r}")
-    names, name_count = c.sources([encoded(name, "the function", name) for name in functions])
+    names, name_count = c.sources([b"DATETIME", *(encoded(name, "the function", name) for name in functions)])
     tag = b"" if locale is None else encoded(locale, "the locale")
     options = c.FluentLintOptions(names, name_count, tag, len(tag), bool(notes), bool(strict))
     given, compared = _files(files, "files"), _files(reference, "reference")

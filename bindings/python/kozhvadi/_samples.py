@@ -2,6 +2,7 @@
 
 from __future__ import annotations
 
+import datetime
 from collections.abc import Iterable, Mapping
 from dataclasses import dataclass, field
 from decimal import Decimal
@@ -13,7 +14,7 @@ from ._languages import has_plural_rules
 from ._places import Places
 from ._scan import Entry, Part
 
-Sample = Union[str, int, Decimal]
+Sample = Union[str, int, Decimal, datetime.datetime]
 
 # A pattern: the id of its message, or of its term with a `-`, and the name of its attribute.
 Named = tuple[str, Union[str, None]]
@@ -89,6 +90,7 @@ class Variable:
     is_number: bool = False
     is_ordinal: bool = False
     keys: list[str] = field(default_factory=list)
+    is_date: bool = False
 
     @property
     def is_plural(self) -> bool:
@@ -104,7 +106,8 @@ class Variable:
         if other is None:
             return self
         keys = [*other.keys, *(each for each in self.keys if each not in other.keys)]
-        return Variable(self.name, self.is_number or other.is_number, self.is_ordinal or other.is_ordinal, keys)
+        is_date = self.is_date or other.is_date
+        return Variable(self.name, self.is_number or other.is_number, self.is_ordinal or other.is_ordinal, keys, is_date)
 
     def cases(self, locale: str) -> list[tuple[str, Sample]]:
         """A sample for each variant that it may choose, and what chooses it: a category or a key."""
@@ -119,10 +122,17 @@ class Variable:
         if self.is_numeric:
             number = categories(locale, self.is_ordinal)["other"]
             return number if isinstance(number, int) else categories(locale, self.is_ordinal).get("many", 5)
+        if self.is_date:
+            return today()
         if self.keys:
             return self.keys[0]
         plain = self.name.replace("-", "").replace("_", "").lower()
         return _TEXTS.get(plain, self.name)
+
+
+def today() -> datetime.datetime:
+    """The date and time that the clock shows, to the minute."""
+    return datetime.datetime.now().astimezone().replace(second=0, microsecond=0)
 
 
 def _is_digits(key: str) -> bool:
@@ -147,6 +157,7 @@ def _add(found: dict[str, Variable], part: Part) -> None:
     for name in part.variables():
         variable = found.setdefault(name, Variable(name))
         variable.is_number = variable.is_number or name in part.numbers
+        variable.is_date = variable.is_date or name in part.dates
     for select in part.selects:
         if select.variable in found:
             variable = found[select.variable]

@@ -11,7 +11,7 @@ import re
 from dataclasses import dataclass, field
 from typing import NamedTuple
 
-from ._builtins import BUILTINS
+from ._builtins import KNOWN, Builtin
 from ._occurrences import Occurrence, Symbol
 from ._stopping import go_on
 
@@ -87,6 +87,7 @@ class Part:
     references: list[Reference] = field(default_factory=list)
     selects: list[Select] = field(default_factory=list)
     numbers: set[str] = field(default_factory=set)
+    dates: set[str] = field(default_factory=set)
 
     def variables(self) -> list[str]:
         """The names of its variables, each once."""
@@ -138,18 +139,19 @@ class Inside(NamedTuple):
     """What is open at an offset: `kind` is "text", "variant", "select", "placeable", "call", or empty between entries.
 
     `entry` is the key of the entry, `callee` what is called, and `is_full` says that a placeable has its expression.
+    `start` is the offset of the brace or parenthesis that opened a placeable or a call.
     """
 
     kind: str
     entry: str = ""
     callee: Symbol | None = None
     is_full: bool = False
+    start: int = 0
 
 
-def _is_of_number(callee: Symbol | None) -> bool:
-    """Whether a call is one of a function of the library that returns a number that it is given."""
-    known = BUILTINS.get(callee.name) if callee and callee.kind == "function" else None
-    return known is not None and known.is_of_number
+def _called(callee: Symbol | None) -> Builtin | None:
+    """What is known of the function that a call is of, if it comes with the library."""
+    return KNOWN.get(callee.name) if callee and callee.kind == "function" else None
 
 
 def inside(source: bytes, offset: int) -> Inside:
@@ -164,7 +166,7 @@ def inside(source: bytes, offset: int) -> Inside:
     if not scan.open:
         return Inside("")
     top = scan.open[-1]
-    return Inside(top.kind, scan.entry.key, top.callee, top.is_full)
+    return Inside(top.kind, scan.entry.key, top.callee, top.is_full, head.start() + top.start)
 
 
 class Scan:
@@ -357,7 +359,10 @@ class Scan:
         """The number that a call makes of a variable chooses variants, too."""
         call = self.open.pop()
         top = self.open[-1]
-        if _is_of_number(call.callee) and call.select.variable:
+        known = _called(call.callee)
+        if known and known.is_of_date and call.select.variable:
+            self.part.dates.add(call.select.variable)
+        if known and known.is_of_number and call.select.variable:
             self.part.numbers.add(call.select.variable)
             is_ordinal = bool(_ORDINAL.search(self.source, call.start, self.at))
             top.select.variable, top.select.is_number = call.select.variable, True

@@ -32,6 +32,8 @@ METHODS = [
     "textDocument/completion",
     "textDocument/codeAction",
     "textDocument/formatting",
+    "textDocument/rangeFormatting",
+    "textDocument/signatureHelp",
     "textDocument/foldingRange",
     "textDocument/selectionRange",
     "textDocument/inlayHint",

@@ -94,9 +94,9 @@ class PageTest(unittest.TestCase):
     def tearDown(self):
         self.assertEqual(self.browser.problems, [])
 
-    def begin(self, source="", reference="", locale="en", fragment=""):
+    def begin(self, source="", reference="", locale="en", fragment="", **more):
         self.given.clear()
-        self.given.update(source=source, reference=reference, locale=locale)
+        self.given.update(source=source, reference=reference, locale=locale, **more)
         self.browser.go("about:blank")
         self.browser.go(self.server.address + fragment)
         self.assertTrue(self.browser.until("state.seen !== null && location.hash.length > 1"))
@@ -355,6 +355,22 @@ class PageTest(unittest.TestCase):
         self.browser.press("Enter")
         self.assertEqual(self.browser.run("$('source').value"), "a = { $n ->\n    [one] x\n    ")
 
+    def test_an_example_after_everything_is_gone(self):
+        self.begin()
+        self.wait("document.querySelector('.nothing')")
+        self.assertEqual(self.texts(".nothing button"), [])
+        self.begin(example="hello = Hello, { $name }!\n")
+        self.wait("document.querySelector('.nothing button')")
+        self.browser.run("document.querySelector('.nothing button').click()")
+        self.wait("document.querySelector('.message .text')")
+        self.assertEqual(self.browser.run("$('source').value"), "hello = Hello, { $name }!\n")
+
+    def test_a_source_is_downloaded(self):
+        self.begin("a = Ą\n")
+        self.browser.run("URL.createObjectURL = (blob) => { blob.text().then((text) => (got = text)); return '#'; }; got = ''")
+        self.browser.run("$('download').click()")
+        self.wait("got === 'a = Ą\\n'")
+
     def test_tidying(self):
         self.begin("a   =   {$x}\n")
         self.browser.run("document.getElementById('tidy').click()")
@@ -370,8 +386,8 @@ class PageTest(unittest.TestCase):
             self.browser.press("Tab")
             order.append(self.browser.run(FOCUSED))
         self.assertEqual(
-            order[:11],
-            ["skip", "locale", "marks", "theme", "share", "tidy", "source", "go", "SUMMARY", "name", "x"],
+            order[:12],
+            ["skip", "locale", "marks", "theme", "share", "tidy", "download", "source", "go", "SUMMARY", "name", "x"],
             order,
         )
         self.browser.run(

@@ -1,20 +1,23 @@
-"""The sessions of README.md, as tests. They are run at the top of the repository."""
+"""The sessions of README.md and of the pages on Python, as tests. They are run at the top of the repository."""
 import doctest
 import os
 import re
 from pathlib import Path
 
-PAGE = Path(__file__).resolve().parents[1] / "README.md"
-TOP = PAGE.parents[2]
+TOP = Path(__file__).resolve().parents[3]
+PAGES = [TOP / "bindings/python/README.md", *sorted(TOP.glob("docs/python/*.md"))]
 
 
-def sessions_of_page():
-    """A test of each session, in the order of the page."""
-    sessions = re.findall(r"^```python\n(.*?)^```$", PAGE.read_text(encoding="utf-8"), re.M | re.S)
-    return [_test(number, session) for number, session in enumerate(sessions, 1)]
+def sessions_of_pages():
+    """A test of each session, in the order of the pages."""
+    return [_test(page, number, session) for page in PAGES for number, session in enumerate(_sessions(page), 1)]
 
 
-def _test(number, session):
+def _sessions(page):
+    return re.findall(r"^```python\n(>>> .*?)^```$", page.read_text(encoding="utf-8"), re.M | re.S)
+
+
+def _test(page, number, session):
     folder = os.getcwd()
-    read = doctest.DocTestParser().get_doctest(session, {}, f"{PAGE.name}, session {number}", str(PAGE), 0)
+    read = doctest.DocTestParser().get_doctest(session, {}, f"{page.name}, session {number}", str(page), 0)
     return doctest.DocTestCase(read, setUp=lambda _: os.chdir(TOP), tearDown=lambda _: os.chdir(folder))

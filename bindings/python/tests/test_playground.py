@@ -354,6 +354,19 @@ class LookedAtTest(unittest.TestCase):
         found = {(each["code"], each["line"]) for each in told["findings"]}
         self.assertEqual(found, {("syntax", 10), ("missing-category", 5), ("unknown-message", 11)})
 
+    def test_dates(self):
+        source = 'a = Due { DATETIME($day, dateStyle: "long", timeStyle: "short") }\n'
+        told = looked_at(Asked(source, arguments={"day": "2026-11-28T20:26"}))
+        part = told["messages"][0]["parts"][0]
+        self.assertEqual(part["text"], "Due \u2068November 28, 2026 at 8:26 PM\u2069")
+        self.assertEqual(part["variables"], [{"name": "day", "kind": "date", "value": "2026-11-28T20:26", "keys": []}])
+        self.assertEqual(told["findings"], [])
+        part = looked_at(Asked(source))["messages"][0]["parts"][0]
+        self.assertRegex(part["variables"][0]["value"], r"^\d{4}-\d\d-\d\dT\d\d:\d\d$")
+        self.assertEqual(part["errors"], [])
+        part = looked_at(Asked(source, arguments={"day": "tomorrow"}))["messages"][0]["parts"][0]
+        self.assertEqual(part["errors"], ["DATETIME() raised TypeError: DATETIME takes a date: str"])
+
     def test_a_reference(self):
         told = looked_at(Asked("\U0001f44d\na = { $nmae }\n", "a = { $name }\nb = B\n", "de"))
         found = [
@@ -510,6 +523,8 @@ class AccessTest(unittest.TestCase):
             ("comment", "raised"),
             ("id", "panel raised error-wash warning-wash"),
             ("variable", "panel raised error-wash warning-wash"),
+            ("term", "raised error-wash warning-wash"),
+            ("function", "raised error-wash warning-wash"),
             ("string", "raised error-wash warning-wash"),
             ("key", "panel raised accent-wash error-wash warning-wash"),
             ("brace", "raised error-wash warning-wash"),

@@ -343,14 +343,12 @@ class Localizations(unittest.TestCase):
         self.assertEqual(found, ["Two 1"] * 8)
 
 
-class NotThere(unittest.TestCase):
-    """What the page names."""
-
+class Dates(unittest.TestCase):
     def test_dates(self):
-        with self.assertRaises(NotImplementedError):
-            fluent_date(date(2018, 2, 1))
-        self.assertEqual(shown(date(2018, 2, 1)), "2018-02-01")
-        self.assertEqual(texts("a = { DATETIME($n) }", {"n": date(2018, 2, 1)})[0], "{DATETIME()}")
+        self.assertEqual(shown(date(2018, 2, 1)), "2/1/2018")
+        self.assertEqual(shown(fluent_date(date(2018, 2, 1), dateStyle="long")), "February 1, 2018")
+        self.assertEqual(texts("a = { DATETIME($n) }", {"n": date(2018, 2, 1)})[0], "2/1/2018")
+        self.assertEqual(texts("a = { DATETIME($n) }", {"n": date(2018, 2, 1)}, functions=kozhvadi.runtime.builtins.BUILTINS)[0], "2/1/2018")
 
 
 if __name__ == "__main__":

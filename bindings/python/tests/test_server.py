@@ -3,6 +3,7 @@
 import os
 import random
 import unittest
+from datetime import datetime
 
 from .fuzz_server import flat, flooded
 from .language_client import Client, at, edited, framed
@@ -289,6 +290,15 @@ class WorkspaceTest(WorkspaceCase):
         told = self.client.ask("textDocument/hover", **at(uri, POLISH, "$count"))["contents"]["value"]
         self.assertIn("one: 1, few: 2, many: 5, other: 1.5", told)
         self.assertIsNone(self.client.ask("textDocument/hover", **at(uri, POLISH, "Jedna")))
+
+    def test_hover_shows_a_date_of_today(self):
+        self.client.start()
+        source = 'a = { DATETIME($day, year: "numeric") }\n'
+        uri = self.client.open("file:///a.ftl", source)
+        told = self.client.ask("textDocument/hover", **at(uri, source, "a ="))["contents"]["value"]
+        self.assertIn(str(datetime.now().year), told)
+        told = self.client.ask("textDocument/hover", **at(uri, source, "DATETIME"))["contents"]["value"]
+        self.assertIn("`DATETIME` takes a date", told)
 
     def test_hover_shows_what_a_function_takes(self):
         self.client.start()

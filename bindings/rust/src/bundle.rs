@@ -3,10 +3,11 @@
 use crate::args::{FluentArgs, NONE};
 use crate::call::{Answering, Functions};
 use crate::custom::{Customs, Transform};
+use crate::date_time::shown_in;
+use crate::entries::{Asking, Entries, Held};
 use crate::errors::{EntryKind, FluentError};
-use crate::ids::{ById, Name};
+use crate::fixed::FixedTexts;
 use crate::kept::{Kept, Refusal, Settings};
-use crate::listing::Entry;
 use crate::memoizer::IntlLangMemoizer;
 use crate::message::{FluentMessage, Message, Pattern};
 use crate::number::FluentNumber;
@@ -18,18 +19,19 @@ use crate::unic_langid::LanguageIdentifier;
 use crate::value::FluentValue;
 use std::borrow::{Borrow, Cow};
 use std::cell::RefCell;
-use std::collections::{hash_map, HashMap};
+use std::collections::HashMap;
 use std::error::Error;
 use std::fmt;
-use std::sync::atomic::{AtomicU64, Ordering};
-use std::sync::{Mutex, OnceLock, PoisonError};
+use std::sync::{Arc, Mutex, OnceLock, PoisonError};
+use std::thread;
 
 /// A bundle of resources, by which their messages are formatted.
 ///
 /// The library reads all resources at the first question after one was added.
 ///
 /// It is `Send` and `Sync`: the bundle that the library keeps is under a lock, which an answer holds for about a
-/// microsecond. So threads can share one, and threads that do nothing but format are faster with a bundle each.
+/// microsecond. So threads can share one, and threads that do nothing but format are faster with a bundle each. Bundles of one
+/// thread share it, if they have the same resources, locale and settings.
 ///
 /// The second parameter is a marker: `fluent-bundle` has two kinds of bundles, and here both are one.
 pub struct FluentBundle<R = FluentResource, M = IntlLangMemoizer> {
@@ -44,16 +46,14 @@ pub struct FluentBundle<R = FluentResource, M = IntlLangMemoizer> {
     formatter: Option<Formatter<M>>,
     transform: Option<Transform>,
     resources: Vec<Added<R>>,
-    /// The entry of each id that counts.
-    entries: HashMap<Name, Held, ById>,
-    /// The ids of messages and terms, in the order in which each came first.
-    ids: Vec<Name>,
+    /// Messages, terms and functions by their ids, which bundles over the same resources share.
+    entries: Arc<Entries>,
     functions: Functions,
-    /// A number that no other bundle of the process has.
-    number: u64,
-    kept: OnceLock<Kept>,
+    /// The texts that are the same for all arguments, as far as they were asked for.
+    fixed: FixedTexts,
+    kept: OnceLock<Arc<Kept>>,
     /// A bundle of the library over sources in which each value is shown by a call.
-    showing: OnceLock<Kept>,
+    showing: OnceLock<Arc<Kept>>,
     /// What shows numbers with options, by these options.
     numbers: Mutex<HashMap<String, Kept>>,
 }
@@ -85,30 +85,10 @@ struct Added<R> {
     overriding: bool,
 }
 
-/// What is held under an id.
-enum Held {
-    Message(Message),
-    /// The function `NUMBER` of the library.
-    Builtin,
-    Function,
-    Term,
-}
-
-impl Held {
-    /// What an entry of this id is in the bundle of this number.
-    fn of(entry: &Entry<'_>, id: &Name, bundle: u64) -> Held {
-        match entry.kind {
-            EntryKind::Message => Held::Message(Message::of(entry, id, bundle)),
-            EntryKind::Term | EntryKind::Function => Held::Term,
-        }
-    }
-}
-
 impl<R: Borrow<FluentResource>> FluentBundle<R, IntlLangMemoizer> {
     /// A bundle without resources, for the first of these locales that is a tag of a language. It writes numbers as that
     /// one does. If none is, the rules are those of English, and numbers are written plainly.
     pub fn new<L: fmt::Display>(locales: Vec<L>) -> Self {
-        static BUNDLES: AtomicU64 = AtomicU64::new(0);
         let tags: Vec<String> = locales.iter().map(L::to_string).collect();
         let rules = tags.iter().find(|locale| is_tag(locale)).cloned().unwrap_or_default();
         FluentBundle {
@@ -121,10 +101,9 @@ impl<R: Borrow<FluentResource>> FluentBundle<R, IntlLangMemoizer> {
             formatter: None,
             transform: None,
             resources: Vec::new(),
-            entries: HashMap::from_iter([(Name::from("NUMBER"), Held::Builtin)]),
-            ids: Vec::new(),
+            entries: Entries::none(),
             functions: Functions::default(),
-            number: BUNDLES.fetch_add(1, Ordering::Relaxed),
+            fixed: FixedTexts::default(),
             kept: OnceLock::new(),
             showing: OnceLock::new(),
             numbers: Mutex::default(),
@@ -156,20 +135,8 @@ impl<R: Borrow<FluentResource>, M> FluentBundle<R, M> {
     /// # Errors
     /// [`FluentError::Overriding`] for each entry whose id was there; the others are added.
     pub fn add_resource(&mut self, resource: R) -> Result<(), Vec<FluentError>> {
-        self.prepare(resource.borrow());
-        let mut errors = Vec::new();
-        for entry in resource.borrow().listed() {
-            match self.entries.entry(entry.name()) {
-                hash_map::Entry::Vacant(place) => {
-                    let id = place.key().clone();
-                    place.insert(Held::of(&entry, &id, self.number));
-                    self.ids.push(id);
-                }
-                hash_map::Entry::Occupied(_) => {
-                    errors.push(FluentError::Overriding { kind: entry.kind, id: entry.id().to_owned() });
-                }
-            }
-        }
+        self.forget();
+        let errors = Entries::add(&mut self.entries, resource.borrow(), false);
         self.resources.push(Added { resource, overriding: false });
         if errors.is_empty() {
             Ok(())
@@ -183,13 +150,8 @@ impl<R: Borrow<FluentResource>, M> FluentBundle<R, M> {
     /// If a resource that [`FluentBundle::add_resource`] added has an id twice too, the first entry of the overriding
     /// one counts.
     pub fn add_resource_overriding(&mut self, resource: R) {
-        self.prepare(resource.borrow());
-        for entry in resource.borrow().listed() {
-            let id = entry.name();
-            if self.entries.insert(id.clone(), Held::of(&entry, &id, self.number)).is_none() {
-                self.ids.push(id);
-            }
-        }
+        self.forget();
+        Entries::add(&mut self.entries, resource.borrow(), true);
         self.resources.push(Added { resource, overriding: true });
     }
 
@@ -273,11 +235,11 @@ impl<R: Borrow<FluentResource>, M> FluentBundle<R, M> {
         F: for<'a> Fn(&[FluentValue<'a>], &FluentArgs<'_>) -> Result<FluentValue<'a>, String> + Send + Sync + 'static,
     {
         let is_builtin = matches!(self.entries.get(id), Some(Held::Builtin));
-        if self.entries.contains_key(id) && !is_builtin {
+        if self.entries.get(id).is_some() && !is_builtin {
             return Err(FluentError::Overriding { kind: EntryKind::Function, id: id.to_owned() });
         }
         self.forget();
-        self.entries.insert(Name::from(id), Held::Function);
+        Entries::add_function(&mut self.entries, id);
         self.functions.add(id, Box::new(function));
         Ok(())
     }
@@ -362,7 +324,7 @@ impl<R: Borrow<FluentResource>, M> FluentBundle<R, M> {
 
     /// The messages with their ids, in the order in which each id came first.
     pub fn messages(&self) -> impl Iterator<Item = (&str, FluentMessage<'_>)> {
-        self.ids.iter().filter_map(|id| Some((&**id, self.get_message(id)?)))
+        self.entries.ids().iter().filter_map(|id| Some((&**id, self.get_message(id)?)))
     }
 
     /// The variables that the message of an id is shown with, each once, or `None` if there is no such message.
@@ -444,7 +406,7 @@ impl<R: Borrow<FluentResource>, M> FluentBundle<R, M> {
 
     /// The pattern of this bundle that is meant by one of any bundle.
     fn own<'p>(&'p self, pattern: &'p Pattern) -> Option<&'p Pattern> {
-        if pattern.is_of(self.number) {
+        if pattern.is_of(self.entries.numbers()) {
             return Some(pattern);
         }
         self.message(pattern.id())?.pattern(pattern.attribute())
@@ -456,8 +418,8 @@ impl<R: Borrow<FluentResource>, M> FluentBundle<R, M> {
     /// is missing is an error, so none was asked for.
     fn fixed_text<'p>(&'p self, pattern: &'p Pattern) -> Option<&'p str> {
         let own = self.own(pattern)?;
-        own.fixed(|| {
-            let shown = |text: &str| Customs::default().shown(text, self.transform).map(String::into_boxed_str);
+        self.fixed.get(own, self.entries.numbers(), || {
+            let shown = |text: &str| Customs::default().shown(text, self.transform, "").map(String::into_boxed_str);
             let fixed = |text: &mut Text, errors: &str| {
                 errors.is_empty().then(|| shown(text.as_str()).unwrap_or_else(|| text.as_str().into()))
             };
@@ -497,7 +459,7 @@ impl<R: Borrow<FluentResource>, M> FluentBundle<R, M> {
             if !lines.is_empty() {
                 errors.extend(lines.split_terminator('\n').map(|line| ResolverError::of_line(line).into()));
             }
-            match answering.customs.shown(text.as_str(), self.transform) {
+            match answering.customs.shown(text.as_str(), self.transform, self.date_locale()) {
                 Some(text) => Formatted::Shown(text),
                 None => Formatted::Taken(took(text)),
             }
@@ -527,9 +489,24 @@ impl<R: Borrow<FluentResource>, M> FluentBundle<R, M> {
             FluentValue::Number(number) if self.transform.is_some() || number.has_more_options() => {
                 Some(self.number_shown(number))
             }
-            FluentValue::Custom(value) => Some(value.as_string(IntlLangMemoizer::marker()).into_owned()),
+            FluentValue::Custom(value) => Some(shown_in(&**value, self.date_locale())),
             _ => None,
         })
+    }
+
+    /// The locale that writes dates, which are written plainly if numbers are.
+    fn date_locale(&self) -> &str {
+        if self.plain_numbers {
+            ""
+        } else {
+            &self.rules
+        }
+    }
+
+    /// Whether messages may call the `DATETIME` that each bundle has.
+    fn calls_dates(&self) -> bool {
+        let calls = |added: &Added<R>| added.resource.borrow().readable().contains("DATETIME");
+        self.entries.get("DATETIME").is_none() && self.resources.iter().any(calls)
     }
 
     /// A number as the library's `NUMBER` shows it by all its options.
@@ -561,26 +538,35 @@ impl<R: Borrow<FluentResource>, M> FluentBundle<R, M> {
         kept.get_or_init(|| {
             let last_counts = self.added(true).any(FluentResource::has_doubles)
                 && !self.added(false).any(FluentResource::has_doubles);
-            let resources: Vec<&FluentResource> = if last_counts {
-                self.added(false).rev().chain(self.added(true)).collect()
-            } else {
-                self.added(true).rev().chain(self.added(false)).collect()
-            };
-            let sources: Vec<Cow<'_, str>> =
-                resources.into_iter().map(|resource| self.source(resource.readable(), shows)).collect();
-            let sources: Vec<&str> = sources.iter().map(AsRef::as_ref).collect();
-            let functions = self.functions.called(shows);
-            let functions: Vec<&str> = functions.iter().map(String::as_str).collect();
-            Kept::of(&sources, &self.rules, self.settings(last_counts), &functions).unwrap_or_else(|| out_of_memory())
+            let (thread, locale) = (thread::current().id(), self.rules.clone());
+            let asking = Asking { thread, locale, settings: self.settings(last_counts), shows };
+            self.entries.kept(&asking, || self.made(&asking))
         })
     }
 
+    /// A bundle of the library over all resources.
+    fn made(&self, asking: &Asking) -> Kept {
+        let resources: Vec<&FluentResource> = if asking.settings.last_counts {
+            self.added(false).rev().chain(self.added(true)).collect()
+        } else {
+            self.added(true).rev().chain(self.added(false)).collect()
+        };
+        let has_dates = self.calls_dates();
+        let sources: Vec<Cow<'_, str>> =
+            resources.into_iter().map(|resource| self.source(resource.readable(), asking.shows, has_dates)).collect();
+        let sources: Vec<&str> = sources.iter().map(AsRef::as_ref).collect();
+        let functions = self.functions.called(asking.shows, has_dates);
+        let functions: Vec<&str> = functions.iter().map(String::as_str).collect();
+        Kept::of(&sources, &asking.locale, asking.settings, &functions).unwrap_or_else(|| out_of_memory())
+    }
+
     /// A source, as the library is given it.
-    fn source<'s>(&self, source: &'s str, shows: bool) -> Cow<'s, str> {
-        if self.functions.are_none() && !shows {
+    fn source<'s>(&self, source: &'s str, shows: bool, has_dates: bool) -> Cow<'s, str> {
+        if self.functions.are_none() && !shows && !has_dates {
             return Cow::Borrowed(source);
         }
-        let is_own = |name: &str| matches!(self.entries.get(name), Some(Held::Function));
+        let is_own =
+            |name: &str| matches!(self.entries.get(name), Some(Held::Function)) || (has_dates && name == "DATETIME");
         let has_number = matches!(self.entries.get("NUMBER"), Some(Held::Builtin));
         Cow::Owned(rewritten(source, &Names { is_own: &is_own, shows, has_number }))
     }
@@ -591,25 +577,12 @@ impl<R: Borrow<FluentResource>, M> FluentBundle<R, M> {
         resources.map(|added| added.resource.borrow())
     }
 
-    /// Forgets what the library was asked, and makes room for the entries of a resource.
-    fn prepare(&mut self, resource: &FluentResource) {
-        self.forget();
-        self.entries.reserve(resource.len());
-        self.ids.reserve(resource.len());
-    }
-
     /// Forgets what the library was asked, before the bundle changes.
     fn forget(&mut self) {
-        let (kept, showing) = (self.kept.take(), self.showing.take());
+        self.kept.take();
+        self.showing.take();
+        self.fixed = FixedTexts::default();
         self.numbers.get_mut().unwrap_or_else(PoisonError::into_inner).clear();
-        if kept.is_none() && showing.is_none() {
-            return;
-        }
-        for held in self.entries.values_mut() {
-            if let Held::Message(message) = held {
-                message.forget_texts();
-            }
-        }
     }
 }
 

@@ -99,10 +99,25 @@ pub struct FluentArgument {
     pub kind: u32,
 }
 
+/// A date, its time if it has one, and the offset of its clock if that is known.
+#[repr(C)]
+pub struct FluentDate {
+    pub offset: i32,
+    pub nanosecond: u32,
+    pub year: i16,
+    pub month: u8,
+    pub day: u8,
+    pub hour: u8,
+    pub minute: u8,
+    pub second: u8,
+    pub has_time: bool,
+    pub has_offset: bool,
+}
+
 extern "C" {
     pub fn fluent_outline(text: *const u8, len: usize, made: *mut FluentText, counts: *mut FluentCounts) -> u32;
     pub fn fluent_tidy(text: *const u8, len: usize, made: *mut FluentText, place: *mut FluentPlace) -> u32;
-    pub fn fluent_write_json(text: *const u8, len: usize, made: *mut FluentText) -> u32;
+    pub fn fluent_nodes(text: *const u8, len: usize, made: *mut FluentText) -> u32;
     pub fn fluent_occurrences(text: *const u8, len: usize, made: *mut FluentText) -> u32;
     pub fn fluent_lint(
         files: *const FluentFile,
@@ -179,6 +194,14 @@ extern "C" {
     ) -> u32;
     pub fn fluent_bundle_errors(bundle: *mut FluentBundle, report: *mut FluentText) -> u32;
     pub fn fluent_bundle_free(bundle: *mut FluentBundle);
+    pub fn fluent_write_date(
+        locale: *const u8,
+        locale_len: usize,
+        date: *const FluentDate,
+        options: *const FluentArgument,
+        option_count: usize,
+        made: *mut FluentText,
+    ) -> u32;
     pub fn fluent_free_text(made: *mut FluentText);
 }
 
@@ -213,6 +236,7 @@ mod tests {
             FluentBundle { held sources read desk }
             FluentBundleOptions { size locale locale_len stack isolating overriding plain_numbers }
             FluentArgument { name name_len text text_len integer unsigned_integer kind }
+            FluentDate { offset nanosecond year month day hour minute second has_time has_offset }
         };
         assert_eq!(ours, asserted);
     }

@@ -2,6 +2,7 @@
 
 use crate::args::FluentArgs;
 use crate::custom::Customs;
+use crate::date_time;
 use crate::report::Reader;
 use crate::resolver::ResolverError;
 use crate::rewriting::{IS_OWN, IS_SHOWN, SHOWN};
@@ -29,11 +30,15 @@ impl Functions {
         self.0.is_empty()
     }
 
-    /// The names that rewritten sources call, which are all if `shows` says that values are shown by calls.
-    pub(crate) fn called(&self, shows: bool) -> Vec<String> {
+    /// The names that rewritten sources call, which are all if `shows` says that values are shown by calls, and also
+    /// `DATETIME` if `has_dates` says that it is the one of each bundle.
+    pub(crate) fn called(&self, shows: bool, has_dates: bool) -> Vec<String> {
         let own = |name: &String| if name == "NUMBER" { format!("{name}{IS_OWN}") } else { name.clone() };
         let mut names: Vec<String> = self.0.keys().map(own).collect();
         names.extend(self.0.keys().map(|name| format!("{name}{IS_SHOWN}")));
+        if has_dates {
+            names.extend(["DATETIME".to_owned(), format!("DATETIME{IS_SHOWN}")]);
+        }
         if shows {
             names.push(SHOWN.to_owned());
             if !self.has("NUMBER") {
@@ -89,6 +94,7 @@ impl Answering<'_> {
     fn value(&self, name: &str, call: &Call) -> Result<FluentValue<'static>, String> {
         match self.functions.0.get(name) {
             Some(function) => function(&call.positional, &call.named).map(|value| value.into_owned()),
+            None if name == "DATETIME" => date_time::called(&call.positional, &call.named),
             None => Ok(number(call)),
         }
     }

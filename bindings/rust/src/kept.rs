@@ -19,7 +19,7 @@ pub(crate) enum Refusal {
 }
 
 /// How a bundle is asked.
-#[derive(Clone, Copy)]
+#[derive(Clone, Copy, PartialEq, Eq)]
 pub(crate) struct Settings {
     /// Whether the values of placeables are between marks of direction.
     pub isolating: bool,

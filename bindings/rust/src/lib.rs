@@ -38,10 +38,12 @@ pub mod bundle;
 mod c;
 mod call;
 mod custom;
+mod date_time;
 mod decimal;
+mod entries;
 mod errors;
+mod fixed;
 mod ids;
-mod json;
 mod kept;
 mod languages;
 mod linting;
@@ -102,8 +104,12 @@ pub mod intl_memoizer {
     }
 }
 
-/// Values, and how numbers are shown.
+/// Values, and how numbers and dates are shown.
 pub mod types {
+    pub use crate::date_time::{
+        DateError, DateStyle, FluentDateTime, FluentDateTimeOptions, HourCycle, MonthWidth, NumberWidth, TextWidth,
+        ZoneName,
+    };
     pub use crate::number::{FluentNumber, ParseNumberError};
     pub use crate::options::{FluentNumberCurrencyDisplayStyle, FluentNumberOptions, FluentNumberStyle};
     pub use crate::value::{AnyEq, FluentType, FluentValue};

@@ -91,7 +91,7 @@ pub struct Report {
 pub struct LintOptions<'a> {
     /// The language whose plural categories are looked for.
     pub locale: Option<&'a str>,
-    /// The names of the functions that the program adds.
+    /// The names of the functions that the program adds, but for `NUMBER` and `DATETIME`.
     pub functions: &'a [&'a str],
     /// Whether notes are reported, too.
     pub notes: bool,
@@ -140,8 +140,8 @@ pub fn lint(
     options: &LintOptions<'_>,
 ) -> Result<Report, LintError> {
     let (files, reference) = (given(files), given(reference));
-    let functions: Vec<c::FluentSource> =
-        options.functions.iter().map(|name| c::FluentSource { text: name.as_ptr(), len: name.len() }).collect();
+    let of_name = |name: &&str| c::FluentSource { text: name.as_ptr(), len: name.len() };
+    let functions: Vec<c::FluentSource> = options.functions.iter().chain(&["DATETIME"]).map(of_name).collect();
     let locale = options.locale.unwrap_or_default();
     let asked = c::FluentLintOptions {
         functions: functions.as_ptr(),

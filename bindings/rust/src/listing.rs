@@ -35,9 +35,31 @@ impl Listing {
         self.count
     }
 
+    /// The lines.
+    pub(crate) fn lines(&self) -> Lines {
+        Lines(Arc::clone(&self.lines))
+    }
+
     /// The messages and terms, in their order.
     pub(crate) fn entries(&self) -> Entries<'_> {
         Entries { lines: &self.lines, at: 0 }
+    }
+}
+
+/// The lines of a listing, which only it and its copies have.
+#[derive(Clone)]
+pub(crate) struct Lines(Arc<str>);
+
+impl Lines {
+    /// Where they are: nothing else is there as long as these lines are held.
+    pub(crate) fn address(&self) -> usize {
+        self.0.as_ptr() as usize
+    }
+}
+
+impl PartialEq for Lines {
+    fn eq(&self, other: &Lines) -> bool {
+        Arc::ptr_eq(&self.0, &other.0)
     }
 }
 

@@ -1,17 +1,17 @@
 //! The trees of resources.
 //!
-//! The library reads a source, and says what its tree is. Here each text of the tree becomes the slice of the source that it
-//! is, so no text is copied: a `Reader` goes along the source and the tree together.
+//! The library reads a source, and lists the nodes of its tree with their places. Here they are put together; each text is
+//! the slice of the source at its place, so none is copied.
 
 use crate::ast::{
     Attribute, CallArguments, Entry, Expression, Identifier, InlineExpression, Message, NamedArgument, Pattern,
     PatternElement, Term, Variant, VariantKey,
 };
 use crate::c;
-use crate::json::Json;
 use crate::resource::{with_empty_comments, FluentResource};
 use crate::text::Text;
 use std::sync::OnceLock;
+use std::vec;
 
 /// The tree of a resource, which is made when it is first asked for.
 ///
@@ -73,295 +73,218 @@ impl FluentResource {
     }
 }
 
-/// The entries of a source that the library can read.
+/// The entries of a source, without its comments. There are none if it nests too deep.
 fn entries_of(source: &str) -> Vec<Entry<&str>> {
-    let read = with_empty_comments(source);
-    let Some(tree) = tree_of(&read) else {
-        return Vec::new();
-    };
-    Reader { source, read: &read, at: 0 }.entries(tree.at("body").items())
+    // Blanks in the place of the texts of comments leave all places as they are.
+    let lines = node_lines(&with_empty_comments(source));
+    let mut nodes = Nodes { source, made: Vec::new() };
+    let all: Option<()> = lines.as_str().lines().try_for_each(|line| nodes.add(line));
+    debug_assert!(all.is_some(), "the library writes no other lines");
+    let entries = nodes.made.into_iter().filter_map(|(_, node)| match node {
+        Node::Entry(entry) => Some(entry),
+        _ => None,
+    });
+    entries.collect()
 }
 
-/// The tree of a source as the library has it, or `None` if it nests too deep.
-fn tree_of(source: &str) -> Option<Json> {
-    let mut text = Text::none();
+/// The lines of the nodes of a source, which are none if it nests too deep.
+fn node_lines(source: &str) -> Text {
+    let mut lines = Text::none();
     // SAFETY: the pointer is that of a slice of the length next to it.
-    let answered = unsafe { c::fluent_write_json(source.as_ptr(), source.len(), text.place()) };
-    if answered == c::FLUENT_READ {
-        Json::of(text.as_str())
-    } else {
-        None
-    }
+    unsafe { c::fluent_nodes(source.as_ptr(), source.len(), lines.place()) };
+    lines
 }
 
-/// A source that is read up to a place.
-struct Reader<'s, 'r> {
+/// A node that is in no other so far.
+enum Node<'s> {
+    Name(&'s str),
+    Element(PatternElement<&'s str>),
+    Inline(InlineExpression<&'s str>),
+    Select(Expression<&'s str>),
+    Arguments(CallArguments<&'s str>),
+    Named(NamedArgument<&'s str>),
+    Variant(Variant<&'s str>),
+    Pattern(Pattern<&'s str>),
+    Attribute(Attribute<&'s str>),
+    Comment,
+    Entry(Entry<&'s str>),
+}
+
+/// The nodes of a source up to a line, each with the place where it begins.
+struct Nodes<'s> {
     source: &'s str,
-    /// What the library has read: the source, with blanks in the place of the texts of comments.
-    read: &'r str,
-    at: usize,
+    made: Vec<(usize, Node<'s>)>,
 }
 
-impl<'s> Reader<'s, '_> {
-    /// The slice that comes next, which is this text. It is passed over.
-    fn take(&mut self, text: &str) -> &'s str {
-        let slice = &self.source[self.at..self.at + text.len()];
-        if cfg!(any(test, debug_assertions)) {
-            assert_eq!(slice, text, "at byte {} of {:?}", self.at, self.source);
+impl Nodes<'_> {
+    /// Adds the node of a line. Those in it are the last ones, from the first that begins where it does or later.
+    fn add(&mut self, line: &str) -> Option<()> {
+        let mut words = line.split(' ');
+        let kind = words.next()?;
+        let (start, end) = (words.next()?.parse().ok()?, words.next()?.parse().ok()?);
+        let text = self.source.get(start..end)?;
+        let node = match leaf(kind, text) {
+            Some(node) => node,
+            None => {
+                let first = self.made.partition_point(|(at, _)| *at < start);
+                let inside: Vec<_> = self.made.drain(first..).map(|(_, node)| node).collect();
+                other(kind, Inside(inside.into_iter()))?
+            }
+        };
+        self.made.push((start, node));
+        Some(())
+    }
+}
+
+/// The node of this kind and this text, if it has no others in it.
+fn leaf<'s>(kind: &str, text: &'s str) -> Option<Node<'s>> {
+    Some(match kind {
+        "Identifier" => Node::Name(text),
+        "TextElement" => Node::Element(PatternElement::TextElement { value: text }),
+        "StringLiteral" => Node::Inline(InlineExpression::StringLiteral { value: text.get(1..text.len() - 1)? }),
+        "NumberLiteral" => Node::Inline(InlineExpression::NumberLiteral { value: text }),
+        "Comment" | "GroupComment" | "ResourceComment" => Node::Comment,
+        "Junk" => Node::Entry(Entry::Junk { content: text }),
+        _ => return None,
+    })
+}
+
+/// The node of this kind that has these in it.
+fn other<'s>(kind: &str, mut inside: Inside<'s>) -> Option<Node<'s>> {
+    Some(match kind {
+        "Placeable" => Node::Element(PatternElement::Placeable { expression: inside.expression()? }),
+        "Select" => Node::Select(Expression::Select { selector: inside.inline()?, variants: inside.variants() }),
+        "Variant" => Node::Variant(inside.variant(false)?),
+        "DefaultVariant" => Node::Variant(inside.variant(true)?),
+        "CallArguments" => Node::Arguments(inside.arguments()?),
+        "NamedArgument" => Node::Named(NamedArgument { name: inside.id()?, value: inside.inline()? }),
+        "Pattern" => Node::Pattern(inside.elements()),
+        "Attribute" => Node::Attribute(Attribute { id: inside.id()?, value: inside.pattern()? }),
+        "Message" => Node::Entry(Entry::Message(inside.message()?)),
+        "Term" => Node::Entry(Entry::Term(inside.term()?)),
+        _ => Node::Inline(inside.reference(kind)?),
+    })
+}
+
+/// The nodes in a node, of which the next ones are taken.
+struct Inside<'s>(vec::IntoIter<Node<'s>>);
+
+impl<'s> Inside<'s> {
+    fn id(&mut self) -> Option<Identifier<&'s str>> {
+        match self.0.next()? {
+            Node::Name(name) => Some(Identifier { name }),
+            _ => None,
         }
-        self.at += text.len();
-        slice
     }
 
-    fn rest(&self) -> &'s str {
-        &self.source[self.at..]
-    }
-
-    /// Passes over what comes before a token or an entry: blank, and the white space that is taken off a pattern.
-    fn skip_white(&mut self) {
-        self.at = self.source.len() - self.rest().trim_start().len();
-    }
-
-    fn skip_spaces(&mut self) {
-        self.at += spaces(self.rest());
-    }
-
-    /// Passes over blank lines, from the start or the end of a line on.
-    fn skip_blank_lines(&mut self) {
-        while let Some(line) = line_end(&self.rest()[spaces(self.rest())..]) {
-            self.at += spaces(self.rest()) + line;
+    fn expression(&mut self) -> Option<Expression<&'s str>> {
+        match self.0.next()? {
+            Node::Select(select) => Some(select),
+            node => inline(node).map(Expression::Inline),
         }
     }
 
-    fn entries(&mut self, body: &[Json]) -> Vec<Entry<&'s str>> {
-        body.iter().filter_map(|entry| self.entry(entry)).collect()
+    fn inline(&mut self) -> Option<InlineExpression<&'s str>> {
+        inline(self.0.next()?)
     }
 
-    /// An entry, or nothing for a comment.
-    fn entry(&mut self, entry: &Json) -> Option<Entry<&'s str>> {
-        match entry.at("type").text() {
-            "Message" => Some(Entry::Message(self.message(entry))),
-            "Term" => Some(Entry::Term(self.term(entry))),
-            "Junk" => Some(self.junk(entry.at("content").text())),
-            _ => {
-                self.skip_comment(entry);
-                None
+    fn pattern(&mut self) -> Option<Pattern<&'s str>> {
+        match self.0.next()? {
+            Node::Pattern(pattern) => Some(pattern),
+            _ => None,
+        }
+    }
+
+    fn elements(self) -> Pattern<&'s str> {
+        let elements = self.0.filter_map(|node| match node {
+            Node::Element(element) => Some(element),
+            _ => None,
+        });
+        Pattern { elements: elements.collect() }
+    }
+
+    fn variants(self) -> Vec<Variant<&'s str>> {
+        let variants = self.0.filter_map(|node| match node {
+            Node::Variant(variant) => Some(variant),
+            _ => None,
+        });
+        variants.collect()
+    }
+
+    fn variant(&mut self, default: bool) -> Option<Variant<&'s str>> {
+        let key = match self.0.next()? {
+            Node::Name(name) => VariantKey::Identifier { name },
+            Node::Inline(InlineExpression::NumberLiteral { value }) => VariantKey::NumberLiteral { value },
+            _ => return None,
+        };
+        Some(Variant { key, value: self.pattern()?, default })
+    }
+
+    fn arguments(self) -> Option<CallArguments<&'s str>> {
+        let (mut positional, mut named) = (Vec::new(), Vec::new());
+        for node in self.0 {
+            match node {
+                Node::Named(argument) => named.push(argument),
+                node => positional.push(inline(node)?),
             }
         }
+        Some(CallArguments { positional, named })
     }
 
-    fn junk(&mut self, content: &str) -> Entry<&'s str> {
-        self.skip_blank_lines();
-        self.at += self.read[self.at..].find(content).unwrap_or(0);
-        let start = self.at;
-        self.at += content.len();
-        Entry::Junk { content: &self.source[start..self.at] }
-    }
-
-    /// Passes over a comment's lines, each with its end.
-    fn skip_comment(&mut self, comment: &Json) {
-        self.skip_white();
-        for _ in 0..comment.at("content").items().len().max(1) {
-            self.at += self.rest().find('\n').map_or(self.rest().len(), |end| end + 1);
-        }
-    }
-
-    fn message(&mut self, message: &Json) -> Message<&'s str> {
-        let id = self.begun(message, 0);
-        let value = message.at("value").or_none().map(|value| self.pattern(value));
-        Message { id, value, attributes: self.attributes(message), comment: None }
-    }
-
-    fn term(&mut self, term: &Json) -> Term<&'s str> {
-        let id = self.begun(term, 1);
-        Term { id, value: self.pattern(term.at("value")), attributes: self.attributes(term), comment: None }
-    }
-
-    /// The id of an entry or an attribute, whose sign has this length. Passes over its comment and its `=`.
-    fn begun(&mut self, entry: &Json, sign: usize) -> Identifier<&'s str> {
-        if let Some(comment) = entry.at("comment").or_none() {
-            self.skip_comment(comment);
-        }
-        self.skip_white();
-        self.at += sign;
-        let id = self.identifier(entry.at("id"));
-        self.skip_spaces();
-        self.at += 1;
-        id
-    }
-
-    fn attributes(&mut self, entry: &Json) -> Vec<Attribute<&'s str>> {
-        let attribute =
-            |attribute| Attribute { id: self.begun(attribute, 1), value: self.pattern(attribute.at("value")) };
-        entry.at("attributes").items().iter().map(attribute).collect()
-    }
-
-    fn identifier(&mut self, identifier: &Json) -> Identifier<&'s str> {
-        Identifier { name: self.take(identifier.at("name").text()) }
-    }
-
-    fn pattern(&mut self, pattern: &Json) -> Pattern<&'s str> {
-        self.skip_spaces();
-        // Whether the indent of a line comes next.
-        let mut is_indented = line_end(self.rest()).is_some();
-        if is_indented {
-            self.skip_blank_lines();
-        }
-        let mut elements = Vec::new();
-        for element in pattern.at("elements").items() {
-            if element.at("type").text() == "Placeable" {
-                self.skip_spaces();
-                elements.push(PatternElement::Placeable { expression: self.placeable(element) });
-                is_indented = false;
-            } else {
-                let value = element.at("value").text();
-                elements.push(PatternElement::TextElement { value: self.piece(value, is_indented) });
-                is_indented = value.ends_with('\n');
+    /// A reference of this kind: its name, and what may come after it.
+    fn reference(&mut self, kind: &str) -> Option<InlineExpression<&'s str>> {
+        let id = self.id()?;
+        let (mut attribute, mut arguments) = (None, None);
+        for node in self.0.by_ref() {
+            match node {
+                Node::Name(name) => attribute = Some(Identifier { name }),
+                Node::Arguments(given) => arguments = Some(given),
+                _ => return None,
             }
         }
-        Pattern { elements }
-    }
-
-    /// A text within a line. Of its indent it has what the lines of the pattern don't have in common.
-    fn piece(&mut self, value: &str, is_indented: bool) -> &'s str {
-        if is_indented {
-            self.at += spaces(self.rest()) - spaces(value);
-        }
-        if value == "\n" && self.rest().starts_with('\r') {
-            // The line end CR LF is a text of its own, one line feed.
-            self.at += 1;
-        }
-        self.take(value)
-    }
-
-    /// What is between the braces.
-    fn placeable(&mut self, placeable: &Json) -> Expression<&'s str> {
-        self.at += 1;
-        self.skip_white();
-        let inner = placeable.at("expression");
-        let expression = match inner.at("type").text() {
-            "Select" => self.select(inner),
-            _ => Expression::Inline(self.inline(inner)),
-        };
-        self.skip_white();
-        self.at += 1;
-        expression
-    }
-
-    fn select(&mut self, select: &Json) -> Expression<&'s str> {
-        let selector = self.inline(select.at("selector"));
-        self.skip_white();
-        self.at += 2;
-        let variants = select.at("variants").items().iter().map(|variant| self.variant(variant)).collect();
-        self.skip_white();
-        // The mark of a default that isn't there.
-        self.at += usize::from(self.rest().starts_with('*'));
-        Expression::Select { selector, variants }
-    }
-
-    fn variant(&mut self, variant: &Json) -> Variant<&'s str> {
-        let default = variant.at("default").is_true();
-        self.skip_white();
-        self.at += if default { 2 } else { 1 };
-        self.skip_white();
-        let key = match variant.at("key").at("type").text() {
-            "Identifier" => VariantKey::Identifier { name: self.identifier(variant.at("key")).name },
-            _ => VariantKey::NumberLiteral { value: self.take(variant.at("key").at("value").text()) },
-        };
-        self.skip_white();
-        self.at += 1;
-        Variant { key, value: self.pattern(variant.at("value")), default }
-    }
-
-    fn inline(&mut self, expression: &Json) -> InlineExpression<&'s str> {
-        let value = expression.at("value").text();
-        match expression.at("type").text() {
-            "StringLiteral" => InlineExpression::StringLiteral { value: self.quoted(value) },
-            "NumberLiteral" => InlineExpression::NumberLiteral { value: self.take(value) },
-            "Placeable" => InlineExpression::Placeable { expression: Box::new(self.placeable(expression)) },
-            _ => self.reference(expression),
-        }
-    }
-
-    /// The text that is in quotes.
-    fn quoted(&mut self, value: &str) -> &'s str {
-        self.at += 1;
-        let slice = self.take(value);
-        self.at += 1;
-        slice
-    }
-
-    fn reference(&mut self, reference: &Json) -> InlineExpression<&'s str> {
-        let kind = reference.at("type").text();
-        self.at += usize::from(matches!(kind, "VariableReference" | "TermReference"));
-        let id = self.identifier(reference.at("id"));
-        match kind {
+        Some(match kind {
             "VariableReference" => InlineExpression::VariableReference { id },
-            "FunctionReference" => {
-                InlineExpression::FunctionReference { id, arguments: self.arguments(reference.at("arguments")) }
-            }
-            "MessageReference" => InlineExpression::MessageReference { id, attribute: self.attribute_of(reference) },
-            _ => {
-                let attribute = self.attribute_of(reference);
-                let arguments = reference.at("arguments").or_none().map(|arguments| self.arguments(arguments));
-                InlineExpression::TermReference { id, attribute, arguments }
+            "MessageReference" => InlineExpression::MessageReference { id, attribute },
+            "TermReference" => InlineExpression::TermReference { id, attribute, arguments },
+            "FunctionReference" => InlineExpression::FunctionReference { id, arguments: arguments? },
+            _ => return None,
+        })
+    }
+
+    fn message(self) -> Option<Message<&'s str>> {
+        let (id, value, attributes) = self.body()?;
+        Some(Message { id, value, attributes, comment: None })
+    }
+
+    fn term(self) -> Option<Term<&'s str>> {
+        let (id, value, attributes) = self.body()?;
+        Some(Term { id, value: value?, attributes, comment: None })
+    }
+
+    /// What a message or a term has. Its comment is left out.
+    fn body(self) -> Option<Body<'s>> {
+        let (mut id, mut value, mut attributes) = (None, None, Vec::new());
+        for node in self.0 {
+            match node {
+                Node::Name(name) => id = Some(Identifier { name }),
+                Node::Pattern(pattern) => value = Some(pattern),
+                Node::Attribute(attribute) => attributes.push(attribute),
+                _ => {}
             }
         }
-    }
-
-    /// The attribute that a reference names.
-    fn attribute_of(&mut self, reference: &Json) -> Option<Identifier<&'s str>> {
-        let attribute = reference.at("attribute").or_none()?;
-        self.skip_white();
-        self.at += 1;
-        Some(self.identifier(attribute))
-    }
-
-    fn arguments(&mut self, arguments: &Json) -> CallArguments<&'s str> {
-        self.skip_white();
-        self.at += 1;
-        let positional = arguments.at("positional").items().iter().map(|argument| self.positional(argument)).collect();
-        let named = arguments.at("named").items().iter().map(|argument| self.named(argument)).collect();
-        self.skip_white();
-        self.at += 1;
-        CallArguments { positional, named }
-    }
-
-    fn positional(&mut self, argument: &Json) -> InlineExpression<&'s str> {
-        self.skip_white();
-        let made = self.inline(argument);
-        self.skip_comma();
-        made
-    }
-
-    fn named(&mut self, argument: &Json) -> NamedArgument<&'s str> {
-        self.skip_white();
-        let name = self.identifier(argument.at("name"));
-        self.skip_white();
-        self.at += 1;
-        self.skip_white();
-        let value = self.inline(argument.at("value"));
-        self.skip_comma();
-        NamedArgument { name, value }
-    }
-
-    /// Passes over the comma after an argument, if there is one.
-    fn skip_comma(&mut self) {
-        self.skip_white();
-        self.at += usize::from(self.rest().starts_with(','));
+        Some((id?, value, attributes))
     }
 }
 
-/// How many spaces a text begins with.
-fn spaces(text: &str) -> usize {
-    text.len() - text.trim_start_matches(' ').len()
-}
+type Body<'s> = (Identifier<&'s str>, Option<Pattern<&'s str>>, Vec<Attribute<&'s str>>);
 
-/// The length of the line end that a text begins with.
-fn line_end(text: &str) -> Option<usize> {
-    match text.as_bytes() {
-        [b'\n', ..] => Some(1),
-        [b'\r', b'\n', ..] => Some(2),
+/// A node as an inline expression, if it is one. A placeable in another placeable is.
+fn inline(node: Node<'_>) -> Option<InlineExpression<&str>> {
+    match node {
+        Node::Inline(inline) => Some(inline),
+        Node::Element(PatternElement::Placeable { expression }) => {
+            Some(InlineExpression::Placeable { expression: Box::new(expression) })
+        }
         _ => None,
     }
 }
@@ -370,7 +293,7 @@ fn line_end(text: &str) -> Option<usize> {
 mod tests {
     use super::*;
 
-    /// Sources of each kind of node, and damaged ones. `Reader::take` compares each slice with the text of the tree.
+    /// Sources of each kind of node, and damaged ones.
     const SOURCES: &[&str] = &[
         "",
         "\n  \n",
@@ -391,13 +314,20 @@ mod tests {
         "a={{{1->\n*[b]c\n}}}\nb={1->\n*[b]{F({1->\n*[b]{{1->\n*[b]c\n d}}\n})}\n}\n",
     ];
 
+    /// How many of the lines are of nodes that begin with one of these.
+    fn count(lines: &Text, kinds: &[&str]) -> usize {
+        lines.as_str().lines().filter(|line| kinds.iter().any(|kind| line.starts_with(kind))).count()
+    }
+
     #[test]
-    fn texts_are_slices_of_the_source() {
+    fn all_nodes_are_put_together() {
         for source in SOURCES {
-            let tree = tree_of(&with_empty_comments(source)).expect("it doesn't nest deep");
-            let body = tree.at("body").items();
-            let comments = body.iter().filter(|entry| entry.at("type").text().ends_with("Comment")).count();
-            assert_eq!(entries_of(source).len(), body.len() - comments, "{source:?}");
+            let lines = node_lines(&with_empty_comments(source));
+            assert_eq!(entries_of(source).len(), count(&lines, &["Message ", "Term ", "Junk "]), "{source:?}");
+            let mut nodes = Nodes { source, made: Vec::new() };
+            assert!(lines.as_str().lines().all(|line| nodes.add(line).is_some()), "{source:?}");
+            let entries = nodes.made.iter().filter(|(_, node)| matches!(node, Node::Entry(_) | Node::Comment));
+            assert_eq!(entries.count(), nodes.made.len(), "{source:?}");
         }
     }
 }

@@ -45,7 +45,7 @@ fn try_group(rt: &HostRuntime, name: &str) -> Result<()> {
     match name {
         "syntax" => rows_syntax::try_all(rt),
         "refused" => rows_syntax::try_refused(rt),
-        "values" => rows_values::try_all(rt),
+        "values" => rows_bundles::try_values(rt),
         "bundles" => rows_bundles::try_all(rt),
         "patterns" => rows_patterns::try_all(rt),
         "memory" => rows_requests::try_memory(rt),

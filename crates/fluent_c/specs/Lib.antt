@@ -16,4 +16,5 @@ pub mod Options
 pub mod Outline
 pub mod Calling
 pub mod Statuses
+pub mod Dates
 pub mod Tidying

@@ -19,6 +19,7 @@ mod buffers;
 mod bundles;
 mod calling;
 mod counts;
+mod dates;
 mod files;
 mod filling;
 mod formatting;
@@ -27,6 +28,7 @@ mod linting;
 mod listing;
 mod locales;
 mod names;
+mod nodes;
 mod occurrences;
 mod options;
 mod outline;
@@ -46,6 +48,7 @@ pub use bundles::{
 };
 pub use calling::{fluent_bundle_call, fluent_bundle_new_calling};
 pub use counts::{FluentCounts, fluent_parse, fluent_parse_runtime};
+pub use dates::{FluentDate, fluent_write_date};
 pub use files::FluentFile;
 pub use fluent_kept::FluentBundle;
 pub use formatting::fluent_bundle_format;
@@ -53,6 +56,7 @@ pub use languages::fluent_negotiate;
 pub use linting::{FluentLintOptions, fluent_lint};
 pub use listing::{fluent_bundle_attributes, fluent_bundle_messages};
 pub use locales::fluent_has_plural_rules;
+pub use nodes::fluent_nodes;
 pub use occurrences::fluent_occurrences;
 pub use options::{FluentBundleOptions, fluent_bundle_new_with};
 pub use outline::fluent_outline;
@@ -80,7 +84,8 @@ pub const FLUENT_NO_MESSAGE: u32 = 4;
 /// What a call returns that asks for a value or an attribute that the message doesn't have.
 pub const FLUENT_NO_PATTERN: u32 = 5;
 /// What a call returns that has an argument whose kind isn't known, or whose decimal is no number,
-/// that names no strategy, or that has options of another size than [`FLUENT_BUNDLE_OPTIONS_SIZE`].
+/// that names no strategy, that has options of another size than [`FLUENT_BUNDLE_OPTIONS_SIZE`], or
+/// whose numbers make no date.
 pub const FLUENT_BAD_ARGUMENT: u32 = 6;
 /// What a call returns that asks a bundle that isn't there.
 pub const FLUENT_NO_BUNDLE: u32 = 7;

@@ -1,5 +1,5 @@
 -- Dates and times as ISO 8601 writes them.
-use Rattle.std.specs.Prelude.{ℕ, Bool, true, false, ◌+◌, ◌/◌, ◌%◌, ◌==◌, if◌then◌else◌, [], List, ◌++◌, encode_utf8, Option, Some, None, codes, ℤ, pos, int_lt, unsigned_abs}
+use Rattle.std.specs.Prelude.{ℕ, Bool, true, false, ◌+◌, ◌/◌, ◌%◌, ◌==◌, if◌then◌else◌, [], ◌++◌, encode_utf8, Option, Some, None, codes, ℤ, pos, int_lt, unsigned_abs}
 use Rattle.fluent_number.specs.Digits.{Text}
 use Rattle.fluent_date.specs.declared.civil.CivilDate as civil
 use Rattle.fluent_date.specs.declared.time.TimeOfDay as time

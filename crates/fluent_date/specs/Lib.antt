@@ -5,3 +5,5 @@ pub mod Options
 pub mod Merge
 pub mod Changes
 pub mod Iso
+pub mod Reading
+pub mod Laws

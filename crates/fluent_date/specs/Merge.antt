@@ -1,6 +1,5 @@
 -- Options by the names and values that `DATETIME` has for them.
-use Prim.Native.String.{String}
-use Rattle.std.specs.Prelude.{ℕ, Bool, true, false, ◌||◌, ◌==◌, Option, Some, None, codes, bytes_eq, if◌then◌else◌, List}
+use Rattle.std.specs.Prelude.{ℕ, Bool, true, false, ◌||◌, ◌==◌, Option, Some, None, codes, bytes_eq, if◌then◌else◌}
 use Rattle.fluent_number.specs.Conversion.{unsigned_of}
 use Rattle.fluent_number.specs.Digits.{Text}
 use Rattle.fluent_number.specs.Number.{Number}

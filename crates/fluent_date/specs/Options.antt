@@ -1,5 +1,5 @@
 -- How a date or time is to be shown.
-use Rattle.std.specs.Prelude.{Bool, ◌||◌, Option, None, is_some}
+use Rattle.std.specs.Prelude.{Bool, ◌||◌, None, is_some}
 use Rattle.fluent_date.specs.declared.options.FluentDateTimeOptions as options
 
 abbrev pub Options : Type 0

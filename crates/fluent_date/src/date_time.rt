@@ -10,7 +10,8 @@ use crate::time::TimeOfDay;
 /// shown.
 ///
 /// The program converts time zones: a value has the date and the time that its clock shows. Two
-/// values are equal if all of this is, the options too.
+/// values are equal if all of this is, the options too. They have no order, since a clock whose
+/// offset isn't known shows no moment; dates and times of day have one.
 ///
 /// ```no_run
 /// let mut value: FluentDateTime = "2026-11-28T20:26:05+01:00".parse()?;

@@ -11,6 +11,7 @@ mod calendar;
 mod civil;
 mod date_time;
 mod error;
+pub mod laws;
 mod merging;
 mod offset;
 mod options;

@@ -1,6 +1,6 @@
 -- The fields of dates and times, by the letters of UTS 35.
 use Prim.Native.String.{String}
-use Rattle.std.specs.Prelude.{ℕ, ◌+◌, ◌-◌, Bool, true, false, ◌&&◌, ◌||◌, ◌==◌, nat_lt, nat_le, if◌then◌else◌, List, [], ◌∷◌, map, Option, Some, None, codes, slice_index_or, slice_set}
+use Rattle.std.specs.Prelude.{ℕ, ◌+◌, ◌-◌, Bool, false, ◌&&◌, ◌||◌, ◌==◌, nat_lt, nat_le, if◌then◌else◌, List, [], ◌∷◌, Option, Some, None, codes, slice_index_or, slice_set}
 use Rattle.fluent_dates.specs.declared.fields.Field as code_field
 
 -- a letter, and how often it stands; no field if the count is 0

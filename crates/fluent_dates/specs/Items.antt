@@ -1,6 +1,6 @@
 -- Patterns of UTS 35, taken apart.
-use Rattle.std.specs.Prelude.{ℕ, ◌+◌, min, Bool, true, false, ◌&&◌, ◌||◌, not, ◌==◌, if◌then◌else◌, List, [], ◌∷◌, ◌++◌, Option, Some, None, is_some, codes, slice_set, replicate}
-use Rattle.fluent_dates.specs.Fields.{Field, f, none, letter, is_any, place_of}
+use Rattle.std.specs.Prelude.{ℕ, ◌+◌, min, Bool, true, false, ◌&&◌, ◌||◌, not, ◌==◌, if◌then◌else◌, List, [], ◌∷◌, ◌++◌, Option, Some, None, is_some, slice_set, replicate}
+use Rattle.fluent_dates.specs.Fields.{Field, f, none, letter, place_of}
 use Rattle.std.specs.Str.{chars}
 use Rattle.fluent_date_tables.specs.Tables.{Text}
 use Rattle.fluent_dates.specs.declared.items.Reading as code_reading

@@ -6,3 +6,4 @@ pub mod Patterns
 pub mod Writing
 pub mod Written
 pub mod Lookup
+pub mod Laws

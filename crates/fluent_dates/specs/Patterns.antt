@@ -1,5 +1,5 @@
 -- The pattern of a locale for options.
-use Rattle.std.specs.Prelude.{ℕ, zero, suc, ◌+◌, ◌-◌, ◌*◌, ◌/◌, ◌%◌, ◌^◌, max, min, Bool, true, false, ◌&&◌, ◌||◌, not, ◌==◌, nat_lt, if◌then◌else◌, List, [], ◌∷◌, ◌++◌, map, Option, Some, None, is_some, is_none, codes, slice_index_or, slice_set, replicate, bit_and, length}
+use Rattle.std.specs.Prelude.{ℕ, zero, suc, ◌+◌, ◌-◌, ◌/◌, ◌%◌, max, min, Bool, true, false, ◌&&◌, ◌||◌, not, ◌==◌, nat_lt, if◌then◌else◌, List, [], ◌∷◌, ◌++◌, map, Option, Some, None, is_some, is_none, codes, slice_index_or, slice_set}
 use Rattle.std.specs.Str.{chars}
 use Rattle.fluent_dates.specs.Fields.{Field, f, none, letter, is_any, place_of, is_number, at, has, complete}
 use Rattle.fluent_dates.specs.Items.{items_of, fields_in, shows}

@@ -1,5 +1,5 @@
 -- The text of a date and time in a locale.
-use Rattle.std.specs.Prelude.{ℕ, ℤ, ◌+◌, ◌-◌, ◌*◌, ◌/◌, ◌%◌, ◌^◌, Bool, true, false, ◌&&◌, ◌||◌, not, ◌==◌, nat_lt, nat_le, if◌then◌else◌, List, [], ◌∷◌, ◌++◌, Option, Some, None, is_some, codes, encode_utf8, slice_index_or, length}
+use Rattle.std.specs.Prelude.{ℕ, ℤ, ◌+◌, ◌-◌, ◌/◌, ◌%◌, Bool, true, false, ◌&&◌, ◌||◌, not, ◌==◌, nat_lt, nat_le, if◌then◌else◌, List, [], ◌∷◌, ◌++◌, Option, Some, None, codes, encode_utf8, slice_index_or, length}
 use Rattle.std.specs.Int.{from_bool}
 use Rattle.fluent_date.specs.Calendar.{weekday, year_of_era, is_before_christ}
 use Rattle.fluent_dates.specs.Fields.{Field, letter, is_any}

@@ -1,8 +1,8 @@
 //! A pattern in the widths that are wanted.
-ghost use Rattle.std.specs.Prelude.{◌≡◌, ◌<◌};
+ghost use Rattle.std.specs.Prelude.{◌≡◌, ◌<◌, IfOk};
 ghost use Rattle.fluent_dates.specs.Fields.{place_of};
 ghost use Rattle.fluent_dates.specs.Matching.{found_view};
-ghost use Rattle.fluent_dates.specs.Patterns.{adjusted_at, adjusted_count, adjusted_hour, adjusted_item, adjusted_letter, asked_count, is_given};
+ghost use Rattle.fluent_dates.specs.Patterns.{adjusted, adjusted_at, adjusted_count, adjusted_hour, adjusted_item, adjusted_letter, asked_count, is_given};
 
 use crate::fields::{
     Field, Fields, HOUR, MINUTE, MONTH, SECOND, WEEKDAY, YEAR, is_number, place_of,
@@ -106,7 +106,10 @@ pub(crate) fn adjusted(
     row: &Row,
     known: &Found,
     wanted: &Fields,
-) -> Result<Vec<Item>, AllocError> {
+) -> Result<Vec<Item>, AllocError>
+    ensures { IfOk result (λ items.
+        items.items ≡ adjusted row.now (found_view known.now) wanted.now) }
+{
     let mut items = items_of(alloc, known.text())?;
     for item in items.iter_mut() {
         *item = adjusted_item(row, *item, known, wanted);

@@ -1,6 +1,7 @@
 //! The best pattern for fields.
-ghost use Rattle.std.specs.Prelude.{◌≡◌};
-ghost use Rattle.fluent_dates.specs.Patterns.{glue_place, lacks_fraction, style_place};
+ghost use Rattle.std.specs.Prelude.{◌≡◌, IfOk, option_map};
+ghost use Rattle.fluent_dates.specs.Matching.{found_view};
+ghost use Rattle.fluent_dates.specs.Patterns.{appended, appended_to, best_pattern, both, fitting, glue_place, lacks_fraction, style_place};
 
 use crate::adjusting::adjusted;
 use crate::fields::{FRACTION, Fields, MONTH, SECOND, WEEKDAY};
@@ -28,7 +29,9 @@ fn appended_more(
     wanted: &Fields,
     items: Vec<Item>,
     lacks: u16,
-) -> Result<Vec<Item>, AllocError> {
+) -> Result<Vec<Item>, AllocError>
+    ensures { IfOk result (λ out. out.items ≡ appended_to row.now wanted.now items.items lacks) }
+{
     if lacks == 0 {
         return Ok(items);
     }
@@ -48,7 +51,9 @@ fn appended_more(
 
 /// The nearest pattern; a fraction that it lacks goes right after the seconds; then for what it
 /// still lacks the nearest pattern is put to it, once.
-fn appended(alloc: Global, row: &Row, wanted: &Fields) -> Result<Vec<Item>, AllocError> {
+fn appended(alloc: Global, row: &Row, wanted: &Fields) -> Result<Vec<Item>, AllocError>
+    ensures { IfOk result (λ out. out.items ≡ appended row.now wanted.now) }
+{
     let Some(known) = nearest(row, wanted) else {
         return Ok(Vec::new(alloc));
     };
@@ -79,7 +84,9 @@ fn glue_style(wanted: &Fields) -> DateStyle
 }
 
 /// One pattern of the date and one of the time, joined.
-fn both(alloc: Global, row: &Row, date: &Fields, time: &Fields) -> Result<Vec<Item>, AllocError> {
+fn both(alloc: Global, row: &Row, date: &Fields, time: &Fields) -> Result<Vec<Item>, AllocError>
+    ensures { IfOk result (λ out. out.items ≡ both row.now date.now time.now) }
+{
     if !has_any(time) {
         return appended(alloc, row, date);
     }
@@ -92,7 +99,9 @@ fn both(alloc: Global, row: &Row, date: &Fields, time: &Fields) -> Result<Vec<It
 }
 
 /// The nearest pattern, if it has all fields that are wanted, and no others.
-fn fitting(row: &Row, wanted: &Fields) -> Option<Found> {
+fn fitting(row: &Row, wanted: &Fields) -> Option<Found>
+    ensures { option_map found_view result ≡ fitting row.now wanted.now }
+{
     match nearest(row, wanted) {
         Some(known) if known.fits() => Some(known),
         _ => None,
@@ -105,7 +114,9 @@ pub(crate) fn best_pattern(
     alloc: Global,
     row: &Row,
     wanted: &Fields,
-) -> Result<Vec<Item>, AllocError> {
+) -> Result<Vec<Item>, AllocError>
+    ensures { IfOk result (λ out. out.items ≡ best_pattern row.now wanted.now) }
+{
     match fitting(row, wanted) {
         Some(known) => adjusted(alloc, row, &known, wanted),
         None => {

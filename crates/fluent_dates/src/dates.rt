@@ -1,6 +1,8 @@
 //! The text of a date in a locale.
 ghost use Rattle.std.specs.Prelude.{◌≡◌};
 ghost use Rattle.fluent_dates.specs.Lookup.{locale_for, row_of};
+ghost use Rattle.fluent_dates.specs.Writing.{date_text};
+ghost use Rattle.fluent_dates.specs.Written.{IsText};
 
 use crate::names::locale_for;
 use crate::patterns::pattern_of;
@@ -44,7 +46,9 @@ impl LocaleDates {
     ///
     /// # Errors
     /// [`AllocError`] if memory runs out; nothing is kept.
-    pub fn text_of(&self, alloc: Global, value: &FluentDateTime) -> Result<String, AllocError> {
+    pub fn text_of(&self, alloc: Global, value: &FluentDateTime) -> Result<String, AllocError>
+        ensures { IsText result (date_text self.now.row.now value.now) }
+    {
         let items = pattern_of(alloc, self.row, value)?;
         let mut text = String::with_capacity(alloc, 48)?;
         push_written(&mut text, self.row, &items, value)?;

@@ -1,5 +1,5 @@
 //! The fields of dates and times, by the letters of UTS 35.
-ghost use Rattle.std.specs.Prelude.{◌≡◌, ◌<◌, ◌≤◌, IfSome};
+ghost use Rattle.std.specs.Prelude.{◌≡◌, ◌<◌, ◌≤◌, IfSome, map};
 ghost use Rattle.fluent_dates.specs.Fields.{apart, complete, is_number, measure, place_of};
 
 use fluent_date_tables::Measures;
@@ -110,7 +110,9 @@ pub(crate) fn measure(field: Field) -> u16
 }
 
 /// The measure of each field.
-pub(crate) fn measures(fields: &Fields) -> Measures {
+pub(crate) fn measures(fields: &Fields) -> Measures
+    ensures { result ≡ map measure fields.now }
+{
     let mut found = [0; 11];
     for place in 0..11 {
         found[place] = measure(fields[place]);

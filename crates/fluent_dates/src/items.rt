@@ -1,6 +1,6 @@
 //! Patterns of UTS 35, taken apart.
 ghost use Rattle.std.specs.Prelude.{◌≡◌, ◌++◌, IfOk, OnOk};
-ghost use Rattle.fluent_dates.specs.Items.{completed, emitted, fields_in, flushed, letter_of, next_reading, quote_if, shows, with_letter};
+ghost use Rattle.fluent_dates.specs.Items.{completed, emitted, fields_in, flushed, items_of, letter_of, next_reading, quote_if, shows, with_letter};
 
 use crate::fields::{Field, Fields, NONE, place_of};
 use std::alloc::{AllocError, Global};
@@ -118,7 +118,9 @@ impl Reading {
 }
 
 /// The items of a pattern.
-pub(crate) fn items_of(alloc: Global, pattern: &str) -> Result<Vec<Item>, AllocError> {
+pub(crate) fn items_of(alloc: Global, pattern: &str) -> Result<Vec<Item>, AllocError>
+    ensures { IfOk result (λ items. items.items ≡ items_of pattern.now) }
+{
     let mut items = Vec::with_capacity(alloc, 24)?;
     let mut reading = Reading {
         quoted: false,

@@ -1,6 +1,6 @@
 //! Patterns put together.
-ghost use Rattle.std.specs.Prelude.{◌≡◌, ◌<◌, ◌==◌, ◌||◌, ◌++◌, OnOk};
-ghost use Rattle.fluent_dates.specs.Patterns.{append_name, append_place, name_place};
+ghost use Rattle.std.specs.Prelude.{◌≡◌, ◌<◌, ◌==◌, ◌||◌, ◌++◌, IfOk, OnOk};
+ghost use Rattle.fluent_dates.specs.Patterns.{append_form, append_name, append_place, as_items, filled, fraction_after, joined, joined_items, name_place, with_fraction};
 
 use crate::fields::{DAY, FRACTION, Field, HOUR, MINUTE, MONTH, PERIOD, SECOND, ZONE};
 use crate::items::{Item, items_of};
@@ -14,7 +14,10 @@ fn push_fraction(
     row: &Row,
     fraction: Field,
     field: Field,
-) -> Result<(), AllocError> {
+) -> Result<(), AllocError>
+    ensures { OnOk result (items.new.items
+        ≡ items.old.items ++ fraction_after row.now fraction field) }
+{
     if field.letter != b's' {
         return Ok(());
     }
@@ -29,7 +32,9 @@ pub(crate) fn with_fraction(
     row: &Row,
     items: &[Item],
     fraction: Field,
-) -> Result<Vec<Item>, AllocError> {
+) -> Result<Vec<Item>, AllocError>
+    ensures { IfOk result (λ out. out.items ≡ with_fraction row.now fraction items.now) }
+{
     let mut out = Vec::with_capacity(alloc, items.len())?;
     for item in items {
         out.push(*item)?;
@@ -41,7 +46,9 @@ pub(crate) fn with_fraction(
 }
 
 /// Adds the characters of a text to items.
-fn push_text(items: &mut Vec<Item>, text: &str) -> Result<(), AllocError> {
+fn push_text(items: &mut Vec<Item>, text: &str) -> Result<(), AllocError>
+    ensures { OnOk result (items.new.items ≡ items.old.items ++ as_items text.now) }
+{
     for c in text.chars() {
         items.push(Item::Char(c))?;
     }
@@ -66,7 +73,10 @@ fn push_filled(
     second: &[Item],
     name: &str,
     c: char,
-) -> Result<(), AllocError> {
+) -> Result<(), AllocError>
+    ensures { OnOk result (items.new.items
+        ≡ items.old.items ++ filled first.now second.now name.now c) }
+{
     match c {
         '0' => push_all(items, first),
         '1' => push_all(items, second),
@@ -85,7 +95,10 @@ pub(crate) fn joined(
     first: &[Item],
     second: &[Item],
     name: &str,
-) -> Result<Vec<Item>, AllocError> {
+) -> Result<Vec<Item>, AllocError>
+    ensures { IfOk result (λ out.
+        out.items ≡ joined form.now first.now second.now name.now) }
+{
     let form = items_of(alloc, form)?;
     joined_items(alloc, &form, first, second, name)
 }
@@ -97,7 +110,10 @@ fn joined_items(
     first: &[Item],
     second: &[Item],
     name: &str,
-) -> Result<Vec<Item>, AllocError> {
+) -> Result<Vec<Item>, AllocError>
+    ensures { IfOk result (λ out.
+        out.items ≡ joined_items first.now second.now name.now form.now) }
+{
     let mut out = Vec::with_capacity(alloc, 24)?;
     for item in form {
         match item {
@@ -133,6 +149,7 @@ fn is_formless(place: usize) -> bool
 /// How a pattern is put to one that lacks it, by the last of its fields.
 pub(crate) fn append_form(row: &Row, place: usize) -> &'static str
     requires { place < 11 }
+    ensures { result.now ≡ append_form row.now place }
 {
     if is_formless(place) {
         "0 ├2: 1┤"

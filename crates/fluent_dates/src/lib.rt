@@ -11,6 +11,7 @@ mod dates;
 mod fields;
 mod items;
 mod joining;
+pub mod laws;
 mod matching;
 mod names;
 mod numbers;

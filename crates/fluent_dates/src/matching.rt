@@ -1,7 +1,7 @@
 //! The pattern that is nearest to the fields that are wanted (UTS 35, "Matching Skeletons").
 ghost use Rattle.std.specs.Prelude.{◌≡◌, ◌&&◌, ◌==◌, not, option_map};
 ghost use Rattle.fluent_date_tables.specs.Texts.{text_numbered};
-ghost use Rattle.fluent_dates.specs.Matching.{found_view, gap_between, is_nearer, nearer, nearest_of, paired, wider};
+ghost use Rattle.fluent_dates.specs.Matching.{found_view, gap_between, is_nearer, nearer, nearest, nearest_of, paired, wider};
 
 use crate::fields::{Fields, measures};
 use fluent_date_tables::{
@@ -137,7 +137,9 @@ fn nearest_of(before: Option<Found>, pairs: &'static [Pair], wanted: &Measures) 
 }
 
 /// The nearest pattern of a locale: of those of dates, and then of those of times.
-pub(crate) fn nearest(row: &Row, wanted: &Fields) -> Option<Found> {
+pub(crate) fn nearest(row: &Row, wanted: &Fields) -> Option<Found>
+    ensures { option_map found_view result ≡ nearest row.now wanted.now }
+{
     let wanted = measures(wanted);
     let dates = nearest_of(None, list_numbered(row.date_patterns), &wanted);
     nearest_of(dates, list_numbered(row.time_patterns), &wanted)

@@ -1,6 +1,6 @@
 //! The pattern of a locale for options.
 ghost use Rattle.std.specs.Prelude.{◌≡◌, false, IfOk};
-ghost use Rattle.fluent_dates.specs.Patterns.{is_hour, restyled, with_hours, with_month};
+ghost use Rattle.fluent_dates.specs.Patterns.{component_pattern, is_hour, pattern_of, recounted, restyled, style_pattern, styled_both, with_hours, with_month};
 
 use crate::best::best_pattern;
 use crate::fields::{Field, Fields, HOUR, MONTH, NONE, PERIOD, complete};
@@ -59,7 +59,9 @@ fn styled_both(
     row: &Row,
     date: Option<DateStyle>,
     time: DateStyle,
-) -> Result<Vec<Item>, AllocError> {
+) -> Result<Vec<Item>, AllocError>
+    ensures { IfOk result (λ out. out.items ≡ styled_both row.now date time) }
+{
     let times = items_of(alloc, time_style(row, time))?;
     match date {
         Some(style) => {
@@ -104,7 +106,9 @@ fn recounted(
     row: &Row,
     letter: u8,
     items: Vec<Item>,
-) -> Result<Vec<Item>, AllocError> {
+) -> Result<Vec<Item>, AllocError>
+    ensures { IfOk result (λ out. out.items ≡ recounted row.now letter items.items) }
+{
     if fields_in(&items)[HOUR].letter == letter {
         return Ok(items);
     }
@@ -117,7 +121,9 @@ fn style_pattern(
     alloc: Global,
     row: &Row,
     options: &FluentDateTimeOptions,
-) -> Result<Vec<Item>, AllocError> {
+) -> Result<Vec<Item>, AllocError>
+    ensures { IfOk result (λ out. out.items ≡ style_pattern row.now options.now) }
+{
     let Some(time) = options.time_style else {
         return match options.date_style {
             Some(date) => items_of(alloc, date_style(row, date)),
@@ -133,7 +139,9 @@ fn component_pattern(
     alloc: Global,
     row: &Row,
     options: &FluentDateTimeOptions,
-) -> Result<Vec<Item>, AllocError> {
+) -> Result<Vec<Item>, AllocError>
+    ensures { IfOk result (λ out. out.items ≡ component_pattern row.now options.now) }
+{
     let items = best_pattern(alloc, row, &wanted_fields(row, options))?;
     if options.hour.is_some() {
         with_hours(alloc, &items, hour_letter(cycle_of(row, options)))
@@ -147,7 +155,9 @@ pub(crate) fn pattern_of(
     alloc: Global,
     row: &Row,
     value: &FluentDateTime,
-) -> Result<Vec<Item>, AllocError> {
+) -> Result<Vec<Item>, AllocError>
+    ensures { IfOk result (λ out. out.items ≡ pattern_of row.now value.now) }
+{
     let options = of_value(value);
     if options.has_style() {
         style_pattern(alloc, row, &options)

@@ -1,6 +1,6 @@
 //! Sets of places, a bit for each.
 ghost use Rattle.std.specs.Prelude.{◌≡◌, ◌<◌};
-ghost use Rattle.fluent_dates.specs.Patterns.{has_any, kept, last_place, later};
+ghost use Rattle.fluent_dates.specs.Patterns.{has_any, kept, last_place, later, of_places};
 
 use crate::fields::{Field, Fields, NONE};
 
@@ -12,11 +12,13 @@ fn kept(places: u16, field: Field) -> Field
 }
 
 /// The fields of these places: a bit for each.
-pub(crate) fn of_places(fields: &Fields, places: u16) -> Fields {
-    let mut out = *fields;
+pub(crate) fn of_places(fields: &Fields, places: u16) -> Fields
+    ensures { result ≡ of_places fields.now places }
+{
+    let mut out = [NONE; 11];
     let mut rest = places;
-    for field in out.iter_mut() {
-        *field = kept(rest, *field);
+    for place in 0..11 {
+        out[place] = kept(rest, fields[place]);
         rest /= 2;
     }
     out

@@ -6,3 +6,10 @@ pub mod EntryView
 pub mod Lines
 pub mod Tokens
 pub mod Sources
+pub mod OffsetLaws
+pub mod Node
+pub mod PatternNodes
+pub mod EntryNodes
+pub mod NodeLines
+pub mod NodeView
+pub mod NodePartView

@@ -100,6 +100,21 @@ status_of-among Input = Contains-get_or (0 ∷ 1 ∷ 2 ∷ 3 ∷ 4 ∷ []) 3 0 (
 status_of-among Output = Contains-get_or (0 ∷ 1 ∷ 2 ∷ 3 ∷ 4 ∷ []) 3 0 (lit< tt)
 status_of-among Memory = Contains-get_or (0 ∷ 1 ∷ 2 ∷ 3 ∷ 4 ∷ []) 4 0 (lit< tt)
 
+-- which isn't 0
+pub never_zero : (fault : Fault) → status_of fault ≡ 0 → ⊥
+never_zero (CarriageReturn place) is = absurd cc
+never_zero (NotNormal report) is = absurd cc
+never_zero NotTree is = absurd cc
+never_zero NotJson is = absurd cc
+never_zero (NoMessage meant) is = absurd cc
+never_zero (CommandLine advice) is = absurd cc
+never_zero (UnknownLocale tag) is = absurd cc
+never_zero (FileUnreadable file why meant) is = absurd cc
+never_zero (FileNotUtf8 file row) is = absurd cc
+never_zero Input is = absurd cc
+never_zero Output is = absurd cc
+never_zero Memory is = absurd cc
+
 -- and so is that of an end without a fault
 pub end_status-among : (end : Ended) → Contains (0 ∷ 1 ∷ 2 ∷ 3 ∷ 4 ∷ []) (end_status end)
 end_status-among Done = Contains-get_or (0 ∷ 1 ∷ 2 ∷ 3 ∷ 4 ∷ []) 0 0 (lit< tt)

@@ -61,5 +61,7 @@ module _ (On : (LintReport → Unread → Type 0) → Type 0)
       (λ report rest equal. subst (λ (r : LintReport). WritesFront held held_after r.text) equal.0 (subst (WritesFront held held_after) same front)) is
 
 -- nothing is written before a fault of reading
-pub lint_input_unread : (l : Lint) (before after : State) (d : Devices) (fault : Fault) → d.held_after ≡ d.held_before → fault ≢ Output → LintInputEnds l before after d (Err fault)
-lint_input_unread l before after d fault same other = record { linted = tt; memory = λ is. same; input = λ is. same; output = λ is. absurd (other cc) }
+pub lint_input_unread : (l : Lint) (before after : State) (d : Devices) (fault : Fault) → after.contents ≡ before.contents → d.held_after ≡ d.held_before → fault ≢ Output →
+    LintInputEnds l before after d (Err fault)
+lint_input_unread l before after d fault kept same other =
+    record { linted = tt; memory = λ is. same; input = λ is. same; output = λ is. absurd (other cc); kept = kept }

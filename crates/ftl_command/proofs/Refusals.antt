@@ -1,5 +1,5 @@
 -- What is so of a fault, by how it came.
-use Rattle.std.proofs.Common.{◌≡◌, ◌≢◌, ◌⊎◌, Bool, Option, None, Some, Result, Ok, Err, IfErr, OnErr, OnOk, inl, inr, refl}
+use Rattle.std.proofs.Common.{◌≡◌, ◌≢◌, ◌⊎◌, Bool, List, [], ◌∷◌, ◌++◌, Option, None, Some, Result, Ok, Err, IfErr, OnErr, OnOk, inl, inr, refl}
 use Rattle.std.specs.Global.{Global}
 use Rattle.std.specs.Prelude.{String}
 use Rattle.std.proofs.lemmas.Result.{IfErr-weaker, on_ok_weaker}
@@ -20,12 +20,13 @@ use Rattle.fluent_tidy.specs.declared.error.NormalizeError.{NormalizeError}
 use Rattle.fluent_tidy.specs.declared.error.NormalizeError.TheVariants as normalize
 use Rattle.fluent_tidy.specs.declared.error.ImportError.{ImportError}
 use Rattle.fluent_tidy.specs.declared.error.ImportError.TheVariants as import
-use Rattle.ftl_command.specs.Faults.{IsBadLine, IsBeforeInput, IsCleanFault, IsFaultOfFiles, IsNormalizeFault, IsOfLocale, SaysOfFiles, SaysReturn, SaysUnknown, import_fault, run_fault}
+use Rattle.ftl_command.specs.Faults.{IsBadLine, IsBeforeInput, IsCleanFault, IsFaultOfFiles, IsNormalizeFault, IsOfLocale, NamesNoFile, ReachesFile, SaysOfFiles, SaysReturn, SaysUnknown, import_fault, run_fault}
 use Rattle.ftl_command.specs.Program.{UnlessListed, files_named, locale_named}
-use Rattle.ftl_command.specs.Refusals.{DevicesEnd, HaveNoNormalText, HoldNoTree, HoldReturn, IsDeviceFault, IsEarlyFault, IsFaultOf, IsOfStreams, IsReadFault, IsRight, IsRightOf, IsTextFault, RefusesNothing, SaysNoMessage, TextWorks}
+use Rattle.ftl_command.specs.Refusals.{DevicesEnd, HaveNoNormalText, HoldNoTree, HoldReturn, IsDeviceFault, IsEarlyFault, IsFaultOf, IsOfStreams, IsReadFault, IsRight, IsRightOf, IsTextFault, RefusesNothing, SaysNoMessage, SaysOfNamed, TextWorks}
 use Rattle.ftl_command.specs.declared.fault.Fault.{Fault}
 use Rattle.ftl_command.specs.declared.fault.Fault.TheVariants.{CarriageReturn, NotNormal, NotTree, NotJson, NoMessage, CommandLine, UnknownLocale, FileUnreadable, FileNotUtf8, Input, Output, Memory}
 use Rattle.ftl_command.specs.declared.ended.Ended.{Ended}
+use Rattle.ftl_files.specs.Files.{State}
 use Rattle.ftl_files.specs.States.{state_of}
 use Rattle.ftl_files.specs.declared.folder.Folder.{Ghosts as FolderGhosts}
 
@@ -65,6 +66,34 @@ of_any (Some (tidy_files t)) p = tt
 of_any (Some (tidy_input checked)) p = p
 of_any (Some (tidy t)) p = p
 
+-- no list of no names has a name in it
+none_split : (front behind : List Text) (name : Text) → [] ≡ front ++ name ∷ behind → ⊥
+none_split [] behind name split = absurd cc
+none_split (x ∷ rest) behind name split = absurd cc
+
+-- if the words name no file, no fault of theirs does
+none_named : (contents : Text → Option Text) (fault : Fault) → ReachesFile contents [] fault → NamesNoFile fault
+none_named contents (FileUnreadable file why meant) reached = none_split reached.front reached.behind file.now reached.split
+none_named contents (FileNotUtf8 file row) reached = none_split reached.front reached.behind file.now reached.split
+none_named contents fault reached = tt
+
+-- what a fault says of the files that a command names is so
+says_of_named : (asked : Option Asked) (before after : State) (fault : Fault) → SaysOfFiles before after (files_named asked) fault → SaysOfNamed asked before after fault
+says_of_named None before after fault says = says
+says_of_named (Some (run r)) before after fault says = says
+says_of_named (Some (format f)) before after fault says = says
+says_of_named (Some (check files)) before after fault says = says
+says_of_named (Some (lint l)) before after fault says = none_named before.contents fault says.reached
+says_of_named (Some (lint_input l)) before after fault says = none_named before.contents fault says.reached
+says_of_named (Some (tidy_files t)) before after fault says = none_named before.contents fault says.reached
+says_of_named (Some (tidy_input checked)) before after fault says = says
+says_of_named (Some (tidy t)) before after fault says = says
+
+-- by what is known of a folder
+on_named : {F : Type 0} (folders : FolderGhosts F) (before after : F) (asked : Option Asked) (fault : Fault) →
+    SaysOfFiles (state_of folders before) (state_of folders after) (files_named asked) fault → SaysOfNamed asked (state_of folders before) (state_of folders after) fault
+on_named folders before after asked fault says = says_of_named asked (state_of folders before) (state_of folders after) fault says
+
 -- a fault of memory or a device
 abbrev IsOfDevice : Fault → Type 0
 IsOfDevice Input = Unit {0}
@@ -75,11 +104,11 @@ IsOfDevice fault = ⊥
 of_device : {F : Type 0} (folders : FolderGhosts F) (before after : F) (asked : Option Asked) (fault : Fault) → IsOfDevice fault →
     folders.failures after ≡ folders.failures before → IsFaultOf folders before after asked fault
 of_device folders before after asked Input of same =
-    record { refused = λ is. absurd is; unknown = tt; unopened = λ of. absurd of; files = of_any asked (record { reached = tt; not_utf8 = tt; unreadable = same }); right = right_by (folders.contents before) asked Input tt }
+    record { refused = λ is. absurd is; unknown = tt; unopened = λ of. absurd of; files = on_named folders before after asked Input (record { reached = tt; not_utf8 = tt; unreadable = same }); right = right_by (folders.contents before) asked Input tt }
 of_device folders before after asked Output of same =
-    record { refused = λ is. absurd is; unknown = tt; unopened = λ of. absurd of; files = of_any asked (record { reached = tt; not_utf8 = tt; unreadable = same }); right = right_by (folders.contents before) asked Output tt }
+    record { refused = λ is. absurd is; unknown = tt; unopened = λ of. absurd of; files = on_named folders before after asked Output (record { reached = tt; not_utf8 = tt; unreadable = same }); right = right_by (folders.contents before) asked Output tt }
 of_device folders before after asked Memory of same =
-    record { refused = λ is. absurd is; unknown = tt; unopened = λ of. absurd of; files = of_any asked (record { reached = tt; not_utf8 = tt; unreadable = same }); right = right_by (folders.contents before) asked Memory tt }
+    record { refused = λ is. absurd is; unknown = tt; unopened = λ of. absurd of; files = on_named folders before after asked Memory (record { reached = tt; not_utf8 = tt; unreadable = same }); right = right_by (folders.contents before) asked Memory tt }
 of_device folders before after asked fault of same = absurd of
 
 module _ {F : Type 0} (folders : FolderGhosts F) (before after : F) (asked : Asked) where
@@ -88,7 +117,7 @@ module _ {F : Type 0} (folders : FolderGhosts F) (before after : F) (asked : Ask
       (IsOfLocale fault → ⊥) → SaysOfFiles (state_of folders before) (state_of folders after) (files_named (Some asked)) fault → IsRight (folders.contents before) (Some asked) fault →
       IsEarlyFault folders before after asked fault
   nameless fault not_words not_input not_output unknown not_locale files right = record {
-    says = record { refused = λ is. absurd (not_words is); unknown = unknown; unopened = λ of. absurd (not_locale of); files = of_any (Some asked) files; right = right };
+    says = record { refused = λ is. absurd (not_words is); unknown = unknown; unopened = λ of. absurd (not_locale of); files = on_named folders before after (Some asked) fault files; right = right };
     not_input = not_input;
     not_output = not_output;
   }
@@ -113,7 +142,7 @@ of_locale folders folder asked (UnknownLocale tag) of unknown = record {
     refused = λ is. absurd is;
     unknown = unknown;
     unopened = λ of. refl;
-    files = of_any (Some asked) (record { reached = tt; not_utf8 = tt; unreadable = refl });
+    files = on_named folders folder folder (Some asked) (UnknownLocale tag) (record { reached = tt; not_utf8 = tt; unreadable = refl });
     right = right_by (folders.contents folder) (Some asked) (UnknownLocale tag) tt;
   };
   not_input = λ is. absurd cc;
@@ -247,7 +276,7 @@ of_bad_words folders folder asked advice nothing = record {
   refused = λ is. nothing;
   unknown = tt;
   unopened = λ of. absurd of;
-  files = of_any asked (record { reached = tt; not_utf8 = tt; unreadable = refl });
+  files = on_named folders folder folder asked (CommandLine advice) (record { reached = tt; not_utf8 = tt; unreadable = refl });
   right = right_by (folders.contents folder) asked (CommandLine advice) tt;
 }
 

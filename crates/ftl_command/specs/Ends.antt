@@ -1,5 +1,5 @@
 -- How the program ends, by what is known of its devices.
-use Rattle.std.specs.Prelude.{◌≡◌, ◌⊎◌, ℕ, Bool, List, Option, None, Result, Ok, Err, IfOk, OnOk, IfErr, IsErrOf, string_bytes}
+use Rattle.std.specs.Prelude.{◌≡◌, ◌⊎◌, ℕ, Bool, Contains, List, [], ◌∷◌, Option, None, Result, Ok, Err, IfOk, OnOk, IfErr, IsErrOf, string_bytes}
 use Rattle.std.specs.Io.KnownBytes.{Appends}
 use Rattle.fluent_serve.specs.Text.{Text}
 use Rattle.fluent_serve.specs.Devices.{HasFailed}
@@ -16,10 +16,20 @@ use Rattle.ftl_files.specs.Files.{State}
 use Rattle.ftl_files.specs.States.{state_of}
 use Rattle.ftl_files.specs.declared.folder.Folder.{Ghosts as FolderGhosts}
 use Rattle.ftl_command.specs.InPlace.{FilesEnd}
-use Rattle.ftl_command.specs.Faults.{outcome_status, fault_line, IsBadLine, IsBeforeInput, IsShownReason, SaysOfFiles, SaysUnknown, said}
+use Rattle.ftl_command.specs.Faults.{outcome_status, fault_line, IsBadLine, IsBeforeInput, IsShownReason, SaysUnknown, said}
 use Rattle.ftl_command.specs.Terminals.{explains}
-use Rattle.ftl_command.specs.Program.{IsDone, AfterMemory, AfterInput, AfterOutput, WithoutInput, UnlessListed, ShowsVersion, WritesFront, files_named, locale_named}
-use Rattle.ftl_command.specs.Refusals.{IsRight}
+use Rattle.ftl_command.specs.Program.{IsDone, IsRefused, AfterMemory, AfterInput, AfterOutput, WithoutInput, UnlessListed, ShowsVersion, WritesFront, locale_named}
+use Rattle.ftl_command.specs.Refusals.{IsRight, SaysOfNamed}
+
+-- What a status tells of the words.
+pub record IsStatusOf (colours : Bool) (words : List Text) (status : ℕ) : Type 0 where
+  pub among : Contains (0 ∷ 1 ∷ 2 ∷ 3 ∷ 4 ∷ []) status
+  -- they are refused, and ask neither for help alone nor for the version alone
+  pub refused : status ≡ 2 → IsRefused (command_of colours words)
+  pub not_help : status ≡ 2 → ¬ AskForHelpAlone words
+  pub not_version : status ≡ 2 → ¬ AskForVersionAlone words
+  -- they name a command, or ask for one of the texts
+  pub served : status ≡ 0 → command_of colours words ≡ None → AskForText words
 
 -- A device before and after: its bytes, if they are known, and how many of its calls have failed.
 pub record Seen : Type 0 where
@@ -83,7 +93,7 @@ pub record Ends (before after : State) (input output faults : Seen) (screens : T
   pub opens : OnOk outcome (UnlessListed (command_of screens.colours words) (after.failures ≡ before.failures))
   pub reads : OnOk outcome (Works input)
   pub writes : OnOk outcome (Works output)
-  -- files that are tidied in place hold their tidy texts, and no other changes; a catalog that is linted is that of the files
+  -- files that are tidied in place hold their tidy texts, and no other changes; what is linted or only read holds what it held
   pub of_files : FilesEnd (command_of screens.colours words) before after (exchanged input output) outcome
   pub no_input : WithoutInput (command_of screens.colours words) (IsUntouched input)
   -- what a fault says is so, and before the words and all files are read nothing else is read or written
@@ -91,7 +101,7 @@ pub record Ends (before after : State) (input output faults : Seen) (screens : T
   pub not_help : IfErr outcome (λ fault. IsBadLine fault → AskForHelpAlone words → ⊥)
   pub not_version : IfErr outcome (λ fault. IsBadLine fault → AskForVersionAlone words → ⊥)
   pub unknown : IfErr outcome (SaysUnknown (locale_named (command_of screens.colours words)))
-  pub files : IfErr outcome (λ fault. UnlessListed (command_of screens.colours words) (SaysOfFiles before after (files_named (command_of screens.colours words)) fault))
+  pub files : IfErr outcome (SaysOfNamed (command_of screens.colours words) before after)
   pub right : IfErr outcome (IsRight before.contents (command_of screens.colours words))
   pub unread : IfErr outcome (λ fault. IsBeforeInput fault → IsUntouched input)
   pub unwritten : IfErr outcome (λ fault. IsBeforeInput fault → IsUntouched output)

@@ -137,6 +137,21 @@ ReachesFile contents files Input = Unit {0}
 ReachesFile contents files Output = Unit {0}
 ReachesFile contents files Memory = Unit {0}
 
+-- the fault names no file
+abbrev pub NamesNoFile : Fault → Type 0
+NamesNoFile (CarriageReturn place) = Unit {0}
+NamesNoFile (NotNormal report) = Unit {0}
+NamesNoFile NotTree = Unit {0}
+NamesNoFile NotJson = Unit {0}
+NamesNoFile (NoMessage meant) = Unit {0}
+NamesNoFile (CommandLine advice) = Unit {0}
+NamesNoFile (UnknownLocale tag) = Unit {0}
+NamesNoFile (FileUnreadable file why meant) = ⊥
+NamesNoFile (FileNotUtf8 file row) = ⊥
+NamesNoFile Input = Unit {0}
+NamesNoFile Output = Unit {0}
+NamesNoFile Memory = Unit {0}
+
 -- the folder's counts of failures before and after: a read has failed exactly if the fault says so
 abbrev pub FailsAsTold : ℕ → ℕ → Fault → Type 0
 FailsAsTold before after (CarriageReturn place) = after ≡ before

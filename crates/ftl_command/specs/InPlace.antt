@@ -1,5 +1,5 @@
--- What becomes of files that are tidied in place.
-use Rattle.std.specs.Prelude.{◌≡◌, ⊤, Bool, List, Option, None, Some, Result, IfOk, IsErrOf}
+-- What becomes of files: of those that are tidied in place, and of those that are only read.
+use Rattle.std.specs.Prelude.{◌≡◌, Bool, List, Option, None, Some, Result, IfOk, IsErrOf}
 use Rattle.std.specs.Io.KnownBytes.{Appends}
 use Rattle.fluent_serve.specs.Text.{Text}
 use denote.Ref.{Bor}
@@ -34,22 +34,22 @@ pub record TidiesInPlace (t : TidyFiles) (before after : State) (Outcome : Said 
 pub record InPlaceEnds (t : TidyFiles) (before after : State) (held held_after : Option Text) (result : Result Ended Fault) : Type 0 where
   pub done : IfOk result (λ end. TidiesInPlace t before after (λ said. Appends held held_after said.names × EndsBy said end))
   -- memory ran out: the first files are tidied
-  pub memory : IsErrOf result Memory → AreTidiedFirst t.check before after
+  pub memory : IsErrOf result Memory → AreTidiedFirst t.check t.paths before after
   -- all are, and a front of their names is written
   pub output : IsErrOf result Output → TidiesInPlace t before after (λ said. WritesFront held held_after said.names)
 
 -- So it is of whatever the words ask for, and of a catalog that is linted; to tidy standard input no file is read or
--- written. Of the files that other commands read, it says nothing.
+-- written. What files hold that are only read is what they held, however the command ended.
 abbrev pub FilesEnd : Option Asked → State → State → Devices → Result Ended Fault → Type 0
-FilesEnd None before after d result = ⊤
-FilesEnd (Some (run r)) before after d result = ⊤
-FilesEnd (Some (format f)) before after d result = ⊤
-FilesEnd (Some (check files)) before after d result = ⊤
+FilesEnd None before after d result = after.contents ≡ before.contents
+FilesEnd (Some (run r)) before after d result = after.contents ≡ before.contents
+FilesEnd (Some (format f)) before after d result = after.contents ≡ before.contents
+FilesEnd (Some (check files)) before after d result = after.contents ≡ before.contents
 FilesEnd (Some (lint l)) before after d result = LintEnds l before after d.held_before d.held_after result
 FilesEnd (Some (lint_input l)) before after d result = LintInputEnds l before after d result
 FilesEnd (Some (tidy_files t)) before after d result = InPlaceEnds t before after d.held_before d.held_after result
 FilesEnd (Some (tidy_input checked)) before after d result = after ≡ before
-FilesEnd (Some (tidy t)) before after d result = ⊤
+FilesEnd (Some (tidy t)) before after d result = after.contents ≡ before.contents
 
 -- the same on a folder and a writer, by what is known of them
 module _ {F W : Type 0} (folders : FolderGhosts F) (before after : F) (sink : SinkGhosts W) (writer writer' : W) where

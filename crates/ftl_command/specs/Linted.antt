@@ -95,6 +95,8 @@ pub record LintEnds (l : Lint) (before after : State) (held held_after : Option 
   pub linted : IfOk result (λ end. OnLintReport l before after (λ report unread. Appends held held_after report.text × EndsLint unread report.has_failed end))
   -- a front of the report is written
   pub output : IsErrOf result Output → OnLintReport l before after (λ report unread. WritesFront held held_after report.text)
+  -- what the files hold is what they held
+  pub kept : after.contents ≡ before.contents
 
 -- What became of linting the input, by how it ended.
 pub record LintInputEnds (l : Lint) (before after : State) (d : Devices) (result : Result Ended Fault) : Type 0 where
@@ -106,6 +108,8 @@ pub record LintInputEnds (l : Lint) (before after : State) (d : Devices) (result
   -- a front of the report is written
   pub output : IsErrOf result Output → OnInputReport l before after d.left_before d.left_after (λ report unread.
       WritesFront d.held_before d.held_after report.text)
+  -- what the files hold is what they held
+  pub kept : after.contents ≡ before.contents
 
 -- ---- the code's values
 

@@ -359,17 +359,21 @@ WithoutInput (Some (tidy_files t)) Fact = Fact
 WithoutInput (Some (tidy_input checked)) Fact = ⊤
 WithoutInput (Some (tidy t)) Fact = Fact
 
--- a fact about commands that stop at the first file that can't be read: those that don't list folders
+-- a fact about commands that stop at the first file that can't be read, and one about those that list folders, and go on after it
+abbrev pub ByListing : Option Asked → Type 0 → Type 0 → Type 0
+ByListing None Stops Lists = Stops
+ByListing (Some (run r)) Stops Lists = Stops
+ByListing (Some (format f)) Stops Lists = Stops
+ByListing (Some (check files)) Stops Lists = Stops
+ByListing (Some (lint l)) Stops Lists = Lists
+ByListing (Some (lint_input l)) Stops Lists = Lists
+ByListing (Some (tidy_files t)) Stops Lists = Lists
+ByListing (Some (tidy_input checked)) Stops Lists = Stops
+ByListing (Some (tidy t)) Stops Lists = Stops
+
+-- a fact about those that don't list folders
 abbrev pub UnlessListed : Option Asked → Type 0 → Type 0
-UnlessListed None Fact = Fact
-UnlessListed (Some (run r)) Fact = Fact
-UnlessListed (Some (format f)) Fact = Fact
-UnlessListed (Some (check files)) Fact = Fact
-UnlessListed (Some (lint l)) Fact = ⊤
-UnlessListed (Some (lint_input l)) Fact = ⊤
-UnlessListed (Some (tidy_files t)) Fact = ⊤
-UnlessListed (Some (tidy_input checked)) Fact = Fact
-UnlessListed (Some (tidy t)) Fact = Fact
+UnlessListed asked Fact = ByListing asked Fact ⊤
 
 -- ---- the files that the words name
 

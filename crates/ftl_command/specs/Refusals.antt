@@ -13,9 +13,10 @@ use Rattle.fluent_tidy.specs.Sources.{holds_return}
 use Rattle.fluent_tidy.specs.Trees.{IsNotImported}
 use Rattle.ftl_arguments.specs.Meaning.{AskForHelpAlone, AskForText, AskForVersionAlone, Asked, Format, Tidy, command_of, run, format, check, lint, lint_input, tidy_files, tidy_input, tidy, clean, normalize, join, export, import}
 use Rattle.ftl_command.specs.Files.{OnFile, OnTexts}
-use Rattle.ftl_command.specs.Faults.{IsBadLine, IsBeforeInput, IsOfLocale, SaysOfFiles, SaysUnknown}
-use Rattle.ftl_command.specs.Program.{OnFound, OnValue, ShowsVersionOn, UnlessListed, files_named, locale_named}
+use Rattle.ftl_command.specs.Faults.{IsBadLine, IsBeforeInput, IsOfLocale, NamesNoFile, SaysOfFiles, SaysUnknown}
+use Rattle.ftl_command.specs.Program.{ByListing, OnFound, OnValue, ShowsVersionOn, UnlessListed, files_named, locale_named}
 use Rattle.ftl_command.specs.declared.ended.Ended.{Ended}
+use Rattle.ftl_files.specs.Files.{State}
 use Rattle.ftl_files.specs.States.{state_of}
 use Rattle.ftl_files.specs.declared.folder.Folder.{Ghosts as FolderGhosts}
 use Rattle.ftl_command.specs.declared.fault.Fault.{Fault}
@@ -110,6 +111,11 @@ IsRight contents (Some (tidy_files t)) fault = RefusesNothing fault
 IsRight contents (Some (tidy_input checked)) fault = RefusesNothing fault
 IsRight contents (Some (tidy t)) fault = IsRightOf contents t fault
 
+-- What a fault says of the files that the words name is so. That of a command which lists folders names none: what can't be read is
+-- reported at its end.
+abbrev pub SaysOfNamed : Option Asked → State → State → Fault → Type 0
+SaysOfNamed asked before after fault = ByListing asked (SaysOfFiles before after (files_named asked) fault) (NamesNoFile fault)
+
 -- ---- a fault, by what the words ask for, and by what is known of the devices before and after
 
 -- what it says of the words and of the files is so
@@ -118,7 +124,7 @@ pub record IsFaultOf {F : Type 0} (folders : FolderGhosts F) (before after : F) 
   pub unknown : SaysUnknown (locale_named asked) fault
   -- before the locale is found no file is read
   pub unopened : IsOfLocale fault → after ≡ before
-  pub files : UnlessListed asked (SaysOfFiles (state_of folders before) (state_of folders after) (files_named asked) fault)
+  pub files : SaysOfNamed asked (state_of folders before) (state_of folders after) fault
   pub right : IsRight (folders.contents before) asked fault
 
 -- so it is of a fault that came before anything but files was read, and before anything was written

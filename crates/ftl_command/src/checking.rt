@@ -32,6 +32,7 @@ pub fn check_files<'words, F: Folder, O: Sink>(
         O.Sink writer.old writer.new result }
     ensures works { OnOk result (TextWorks F.Folder folder.old folder.new
         O.Sink writer.old writer.new) }
+    ensures kept { F.contents folder.new ≡ F.contents folder.old }
     ensures fault { IfErr result (IsFaultOf F.Folder folder.old folder.new
         (Some (check (texts files.now)))) }
     ensures stops { IfErr result (IsTextFault O.Sink writer.old writer.new) }
@@ -56,6 +57,7 @@ fn report_on<'words, F: Folder>(
     ensures fault { IfErr result (IsEarlyFault F.Folder folder.old folder.new
         (check (texts files.now))) }
     ensures opens { OnOk result (F.failures folder.new ≡ F.failures folder.old) }
+    ensures kept { F.contents folder.new ≡ F.contents folder.old }
 {
     let texts = read_text_files(folder, alloc, files)?;
     let sources = borrow_texts(alloc, &texts)?;

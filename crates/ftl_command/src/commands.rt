@@ -1,10 +1,10 @@
 //! The program: its words, its files and its streams.
-ghost use Rattle.std.specs.Prelude.{◌≡◌, ◌∷◌, [], false, None, Some, Contains};
+ghost use Rattle.std.specs.Prelude.{◌≡◌, false, Some};
 ghost use Rattle.ftl_arguments.specs.CommandView.{command_view};
-ghost use Rattle.ftl_arguments.specs.Meaning.{AskForText, AskForHelpAlone, AskForVersionAlone, command_of, texts};
-ghost use Rattle.ftl_command.specs.Ends.{EndsOn, EndsOver};
+ghost use Rattle.ftl_arguments.specs.Meaning.{command_of, texts};
+ghost use Rattle.ftl_command.specs.Ends.{EndsOn, EndsOver, IsStatusOf};
 ghost use Rattle.ftl_command.specs.InPlace.{FilesEndBy, FilesEndFor};
-ghost use Rattle.ftl_command.specs.Program.{CommandEndsOn, IsRefused, WithoutInput};
+ghost use Rattle.ftl_command.specs.Program.{CommandEndsOn, WithoutInput};
 ghost use Rattle.ftl_command.specs.Refusals.{AnswersHelp, DevicesEnd};
 ghost use Rattle.ftl_command.specs.Terminals.{piped};
 
@@ -40,12 +40,7 @@ pub fn program<R: Files, I: io::Read + Drop, O: io::Write + Drop, F: io::Write +
     output: O,
     faults: F,
 ) -> u8
-    ensures statuses { Contains (0 ∷ 1 ∷ 2 ∷ 3 ∷ 4 ∷ []) result }
-    ensures refused { result ≡ 2 → IsRefused (command_of false (texts words.now)) }
-    ensures not_help { result ≡ 2 → ¬ AskForHelpAlone (texts words.now) }
-    ensures not_version { result ≡ 2 → ¬ AskForVersionAlone (texts words.now) }
-    ensures served { result ≡ 0 → command_of false (texts words.now) ≡ None
-        → AskForText (texts words.now) }
+    ensures status { IsStatusOf false (texts words.now) result }
     ensures ended { EndsOver (I.remaining input) (O.contents output) (F.contents faults)
         piped (texts words.now) result }
 {
@@ -68,12 +63,7 @@ pub fn program_shown<R: Files, I: io::Read + Drop, O: io::Write + Drop, F: io::W
     output: O,
     faults: F,
 ) -> u8
-    ensures statuses { Contains (0 ∷ 1 ∷ 2 ∷ 3 ∷ 4 ∷ []) result }
-    ensures refused { result ≡ 2 → IsRefused (command_of screens.colours (texts words.now)) }
-    ensures not_help { result ≡ 2 → ¬ AskForHelpAlone (texts words.now) }
-    ensures not_version { result ≡ 2 → ¬ AskForVersionAlone (texts words.now) }
-    ensures served { result ≡ 0 → command_of screens.colours (texts words.now) ≡ None
-        → AskForText (texts words.now) }
+    ensures status { IsStatusOf screens.colours (texts words.now) result }
     ensures ended { EndsOver (I.remaining input) (O.contents output) (F.contents faults)
         screens (texts words.now) result }
 {
@@ -113,12 +103,7 @@ pub fn program_on<F: Folder, I: Source, O: Sink, T: Sink>(
     writer: &mut O,
     faults: &mut T,
 ) -> u8
-    ensures statuses { Contains (0 ∷ 1 ∷ 2 ∷ 3 ∷ 4 ∷ []) result }
-    ensures refused { result ≡ 2 → IsRefused (command_of screens.colours (texts words.now)) }
-    ensures not_help { result ≡ 2 → ¬ AskForHelpAlone (texts words.now) }
-    ensures not_version { result ≡ 2 → ¬ AskForVersionAlone (texts words.now) }
-    ensures served { result ≡ 0 → command_of screens.colours (texts words.now) ≡ None
-        → AskForText (texts words.now) }
+    ensures status { IsStatusOf screens.colours (texts words.now) result }
     ensures ended { EndsOn F.Folder folder.old folder.new I.Source reader.old reader.new
         O.Sink writer.old writer.new T.Sink faults.old faults.new
         screens (texts words.now) result }
@@ -157,7 +142,7 @@ pub fn run_command<'words, F: Folder, I: Source, O: Sink>(
         O.Sink writer.old writer.new (command_of colours (texts words.now)) result }
     // Files that are tidied in place hold their tidy texts, and no other file changes. What is
     // linted are the files that the paths stand for, but for those that can't be read, which are
-    // reported.
+    // reported. Each other command leaves all files as they were, also after a fault.
     ensures files { FilesEndFor F.Folder folder.old folder.new I.Source reader.old reader.new
         O.Sink writer.old writer.new colours words.now result }
     ensures no_input { WithoutInput (command_of colours (texts words.now))

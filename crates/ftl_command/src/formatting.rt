@@ -40,6 +40,7 @@ pub fn write_formatted<'words, F: Folder, O: Sink>(
         O.Sink writer.old writer.new result }
     ensures works { OnOk result (TextWorks F.Folder folder.old folder.new
         O.Sink writer.old writer.new) }
+    ensures kept { F.contents folder.new ≡ F.contents folder.old }
     ensures fault { IfErr result (IsFaultOf F.Folder folder.old folder.new
         (Some (asked.format (format_view format.now)))) }
     ensures stops { IfErr result (IsTextFault O.Sink writer.old writer.new) }
@@ -72,6 +73,7 @@ fn formatted_on<'words, F: Folder>(
     ensures fault { IfErr result (IsEarlyFault F.Folder folder.old folder.new
         (asked.format (format_view format.now))) }
     ensures opens { OnOk result (F.failures folder.new ≡ F.failures folder.old) }
+    ensures kept { F.contents folder.new ≡ F.contents folder.old }
 {
     let rules = RunRules::of_locale(format.locale, format.plain_numbers)?;
     let texts = match read_text_files(folder, alloc, &format.files) {

@@ -24,6 +24,7 @@ use std::alloc::{AllocError, Global};
 
 /// Writes what is found in the catalog in files, and those below folders. A file that can't be read
 /// is reported in the end, as a path that stands for no file is, and the report is on the others.
+/// The files stay as they are.
 ///
 /// # Errors
 /// The first fault: an unknown locale is found before any file is read. After [`Fault::Output`] a
@@ -47,8 +48,8 @@ pub fn lint_files<'words, F: Folder, O: Sink>(
 }
 
 /// Writes what is found in standard input, which is the catalog. The files of the reference are
-/// read before it. If it isn't UTF-8 or nests too deep, that is reported in the end, and the report
-/// is on no file.
+/// read before it, and stay as they are. If it isn't UTF-8 or nests too deep, that is reported in
+/// the end, and the report is on no file.
 ///
 /// # Errors
 /// The first fault: an unknown locale is found before anything is read. After [`Fault::Output`] a
@@ -103,6 +104,7 @@ fn report_paths<'words, F: Folder>(
     lint: &Lint<'words>,
 ) -> Result<Linted, Fault<'words>>
     ensures linted { IfOk result (LintsOn F.Folder folder.old folder.new lint.now) }
+    ensures kept { F.contents folder.new ≡ F.contents folder.old }
     ensures fault { IfErr result (IsEarlyFault F.Folder folder.old folder.new
         (asked.lint (lint_view lint.now))) }
 {
@@ -121,6 +123,7 @@ fn report_input<'words, F: Folder, I: Source>(
 ) -> Result<Linted, Fault<'words>>
     ensures linted { IfOk result (LintsInputOn F.Folder folder.old folder.new
         I.Source reader.old reader.new lint.now) }
+    ensures kept { F.contents folder.new ≡ F.contents folder.old }
     ensures reads { OnOk result (I.failures reader.new ≡ I.failures reader.old) }
     ensures fault { IfErr result (IsFaultOf F.Folder folder.old folder.new
         (Some (asked.lint_input (lint_view lint.now)))) }

@@ -46,6 +46,7 @@ pub fn run_files<'words, F: Folder, I: Source, O: Sink>(
     ensures ran { RunEndsOn F.Folder folder.old I.Source reader.old reader.new
         O.Sink writer.old writer.new (run_of options.entry files.now) result }
     ensures opens { OnOk result (F.failures folder.new ≡ F.failures folder.old) }
+    ensures kept { F.contents folder.new ≡ F.contents folder.old }
     ensures reads { OnOk result (I.failures reader.new ≡ I.failures reader.old) }
     ensures writes { OnOk result (O.failures writer.new ≡ O.failures writer.old) }
     ensures fault { IfErr result (IsFaultOf F.Folder folder.old folder.new

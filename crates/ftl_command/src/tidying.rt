@@ -38,6 +38,7 @@ pub fn write_tidied<'words, F: Folder, O: Sink>(
         O.Sink writer.old writer.new result }
     ensures works { OnOk result (TextWorks F.Folder folder.old folder.new
         O.Sink writer.old writer.new) }
+    ensures kept { F.contents folder.new ≡ F.contents folder.old }
     ensures fault { IfErr result (IsFaultOf F.Folder folder.old folder.new
         (Some (asked.tidy (tidy_view tidy.now)))) }
     ensures stops { IfErr result (IsTextFault O.Sink writer.old writer.new) }
@@ -61,6 +62,7 @@ pub fn tidied_text<'words, F: Folder>(
     ensures fault { IfErr result (IsEarlyFault F.Folder folder.old folder.new
         (asked.tidy (tidy_view tidy.now))) }
     ensures opens { OnOk result (F.failures folder.new ≡ F.failures folder.old) }
+    ensures kept { F.contents folder.new ≡ F.contents folder.old }
 {
     match tidy {
         Tidy::Clean(file) => clean_file(folder, alloc, file),
@@ -82,6 +84,7 @@ fn clean_file<'words, F: Folder>(
     ensures fault { IfErr result (IsEarlyFault F.Folder folder.old folder.new
         (asked.tidy (asked.clean file.now))) }
     ensures opens { OnOk result (F.failures folder.new ≡ F.failures folder.old) }
+    ensures kept { F.contents folder.new ≡ F.contents folder.old }
 {
     let source = read_text_file(folder, alloc, file)?;
     match clean(alloc, source.as_str()) {
@@ -101,6 +104,7 @@ fn normalize_file<'words, F: Folder>(
     ensures fault { IfErr result (IsEarlyFault F.Folder folder.old folder.new
         (asked.tidy (asked.normalize file.now))) }
     ensures opens { OnOk result (F.failures folder.new ≡ F.failures folder.old) }
+    ensures kept { F.contents folder.new ≡ F.contents folder.old }
 {
     let source = read_text_file(folder, alloc, file)?;
     match normalize(alloc, source.as_str()) {
@@ -120,6 +124,7 @@ fn join_files<'words, F: Folder>(
     ensures fault { IfErr result (IsEarlyFault F.Folder folder.old folder.new
         (asked.tidy (asked.join (texts files.now)))) }
     ensures opens { OnOk result (F.failures folder.new ≡ F.failures folder.old) }
+    ensures kept { F.contents folder.new ≡ F.contents folder.old }
 {
     let texts = read_text_files(folder, alloc, files)?;
     let sources = borrow_texts(alloc, &texts)?;
@@ -140,6 +145,7 @@ fn export_file<'words, F: Folder>(
     ensures fault { IfErr result (IsEarlyFault F.Folder folder.old folder.new
         (asked.tidy (asked.export file.now))) }
     ensures opens { OnOk result (F.failures folder.new ≡ F.failures folder.old) }
+    ensures kept { F.contents folder.new ≡ F.contents folder.old }
 {
     let source = read_text_file(folder, alloc, file)?;
     match export(alloc, source.as_str()) {
@@ -169,6 +175,7 @@ fn import_file<'words, F: Folder>(
     ensures fault { IfErr result (IsEarlyFault F.Folder folder.old folder.new
         (asked.tidy (asked.import file.now))) }
     ensures opens { OnOk result (F.failures folder.new ≡ F.failures folder.old) }
+    ensures kept { F.contents folder.new ≡ F.contents folder.old }
 {
     let source = read_text_file(folder, alloc, file)?;
     let value = json_value(alloc, source.as_str())?;

@@ -4,3 +4,4 @@ pub mod ListingLemmas
 pub mod NotedLemmas
 pub mod TidyLemmas
 pub mod ReadLemmas
+pub mod NamesOfPaths

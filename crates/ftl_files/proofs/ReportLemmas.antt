@@ -1,5 +1,5 @@
 -- Reports on one file.
-use Rattle.std.proofs.Common.{◌≡◌, ◌∙◌, List, [], ◌∷◌, ◌++◌, true, map, filter, ap, refl, append-nil}
+use Rattle.std.proofs.Common.{◌≡◌, ◌∙◌, List, [], ◌∷◌, ◌++◌, true, map, filter, ap, refl, append-nil, Option, None, Some, IfSome, option_map}
 use Rattle.lint_findings.specs.Findings.{FileFinding, findings_in}
 use Rattle.lint_findings.specs.Finding.{Severity, error, warning, note}
 use Rattle.lint_findings.specs.Report.{is_shown, report_text, shown}
@@ -33,6 +33,11 @@ one_file file findings =
     let all = findings_in (file_view file) (map finding_view findings.items) in
     append-nil (report_text shown_width (shown true (all ++ [])))
     ∙ (ap (λ fs. report_text shown_width (shown true fs)) (append-nil all) ∙ ap (report_text shown_width) (shown_whole all))
+
+-- what holds of what there is holds of what is made of it
+pub on_mapped : {X Y : Type 0} (f : X → Y) (P : Y → Type 0) (o : Option X) → IfSome o (λ x. P (f x)) → IfSome (option_map f o) P
+on_mapped f P None h = tt
+on_mapped f P (Some x) h = h
 
 -- what becomes of a source that is refused for a reason
 pub source_ends : (name source : Text) (reason : TidyError) (report : Text) → IsReason source reason → IsReport name (plain source) reason report →

@@ -1,10 +1,10 @@
 -- Files that are tidied, one after the other.
-use Rattle.std.proofs.Common.{◌≡◌, ◌∙◌, ℕ, ◌+◌, ◌<◌, Bool, true, false, Result, Ok, Err, OnErr, rules, List, [], ◌∷◌, Bor, length, take, get_or}
-use Rattle.std.proofs.lemmas.List.{take_more, map-append}
+use Rattle.std.proofs.Common.{◌≡◌, ◌∙◌, arith, ℕ, ◌+◌, ◌<◌, Bool, true, false, Result, Ok, Err, OnErr, rules, List, [], ◌∷◌, Bor, length, take, get_or}
+use Rattle.std.proofs.lemmas.List.{take_all, take_more, map-append, take-map}
 use Rattle.fluent_serve.specs.Text.{Text}
 use Rattle.fluent_serve.specs.Texts.{texts}
 use Rattle.ftl_files.specs.Files.{State}
-use Rattle.ftl_files.specs.Tidying.{EndsSo, FileEnd, GoesThrough, IsLeft, Said, kept, changed, failed, refused, out_of_memory, unreadable, not_utf8, unwritable, one_more, said_after}
+use Rattle.ftl_files.specs.Tidying.{EndsSo, FileEnd, GoesThrough, GoesThroughFirst, IsLeft, Said, kept, changed, failed, refused, out_of_memory, unreadable, not_utf8, unwritable, one_more, said_after}
 
 -- one file more is tidied
 pub through_next : (check : Bool) (start here there : State) (names : List (Bor Text)) (i : ℕ) (d : Bor Text) (said after : Said) (end : FileEnd) → i < length names →
@@ -13,6 +13,22 @@ pub through_next : (check : Bool) (start here there : State) (names : List (Bor 
 through_next check start here there names i d said after end inside before ended is =
     rw (is, take_more names i d inside, map-append (λ (n : Bor Text). n.now) (take i names) (get_or names i d ∷ []))
     (one_more (get_or names i d).now end there before ended)
+
+-- memory ran out after the first files
+module _ (check : Bool) (start here after : State) where
+  pub first_through : (names : List Text) (count : ℕ) (said : Said) → GoesThrough check start (take count names) said here → after.contents ≡ here.contents →
+      GoesThroughFirst check names start after
+  first_through names count said through same = record { count = count; said = said; there = here; through = through; stopped = same }
+
+  -- of these
+  pub first_of : (names : List (Bor Text)) (i : ℕ) (said : Said) → GoesThrough check start (texts (take i names)) said here → after.contents ≡ here.contents →
+      GoesThroughFirst check (texts names) start after
+  first_of names i said through same =
+      first_through (texts names) i said (rw (take-map (λ (n : Bor Text). n.now) i names) through) same
+
+  -- after all of them
+  pub all_through : (names : List Text) (said : Said) → GoesThrough check start names said here → after.contents ≡ here.contents → GoesThroughFirst check names start after
+  all_through names said through same = first_through names (length names) said (rw (take_all (length names) names (omega arith)) through) same
 
 -- a file that was read before it was tidied
 pub ends_later : (check : Bool) (name : Text) (before mid after : State) → IsLeft before mid → (end : FileEnd) → EndsSo check name end mid after →

@@ -1,5 +1,7 @@
 -- Sources that nest too deep to be read, and what is said of them.
-use Rattle.std.specs.Prelude.{◌≡◌, ℕ, ◌++◌, take, drop, Option, None, Some, IfSome, codes, decimal}
+use Rattle.std.specs.Prelude.{◌≡◌, ℕ, ◌<◌, ◌++◌, length, take, drop, Option, None, Some, IfSome, codes, decimal}
+use Rattle.memchr.specs.Find.{is_byte2, places}
+use Rattle.fluent_grammar.specs.Words.{open_brace, open_paren}
 use Rattle.fluent_serve.specs.Text.{Text}
 use Rattle.fluent_parser.specs.Depth.{NestsPast}
 use Rattle.lint_findings.specs.Position.{position_of}
@@ -7,6 +9,10 @@ use Rattle.lint_findings.specs.Position.{position_of}
 -- a text nests past the 6 MB of the machine's stack that a program reads in
 abbrev pub NestsTooDeep : Text → Type 0
 NestsTooDeep text = NestsPast 6291456 text
+
+-- a text opens fewer than 2,000 placeables and calls
+abbrev pub IsShallow : Text → Type 0
+IsShallow text = length (places (is_byte2 open_brace open_paren) text) < 2000
 
 -- a part of a source that begins at this offset does, by itself
 pub record IsDeepAt (source : Text) (offset : ℕ) : Type 0 where

@@ -9,3 +9,5 @@ pub mod Tidying
 pub mod Reading
 pub mod TidyView
 pub mod Rows
+pub mod Causes
+pub mod ListedLaws

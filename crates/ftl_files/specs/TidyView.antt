@@ -92,6 +92,11 @@ module _ {F : Type 0} (folders : FolderGhosts F) where
   GoesThroughOn check names before after tidied =
       tidying.GoesThrough check (state_of folders before) (texts names) (said_view tidied) (state_of folders after)
 
+  -- the first of them are
+  abbrev pub GoesThroughFirstOn : Bool → List (Bor Text) → F → F → Type 0
+  GoesThroughFirstOn check names before after =
+      tidying.GoesThroughFirst check (texts names) (state_of folders before) (state_of folders after)
+
   -- a path is listed so, and several are
   abbrev pub IsListedOn : Text → F → F → Listing → Type 0
   IsListedOn path before after listed = listing.IsListedAs path (listed_names listed) (state_of folders before) (state_of folders after)
@@ -104,8 +109,8 @@ module _ {F : Type 0} (folders : FolderGhosts F) where
   AreTidiedOn check paths before after tidied =
       tidying.AreTidied check (texts paths) (state_of folders before) (state_of folders after) (said_view tidied)
 
-  abbrev pub AreTidiedFirstOn : Bool → F → F → Type 0
-  AreTidiedFirstOn check before after = tidying.AreTidiedFirst check (state_of folders before) (state_of folders after)
+  abbrev pub AreTidiedFirstOn : Bool → List (Bor Text) → F → F → Type 0
+  AreTidiedFirstOn check paths before after = tidying.AreTidiedFirst check (texts paths) (state_of folders before) (state_of folders after)
 
   -- the files that paths stand for are read, and one after the other
   abbrev pub AreReadOn : List (Bor Text) → F → F → ReadSources → Type 0

@@ -1,10 +1,10 @@
 -- Tidying files, one after the other: what becomes of each, and what is reported.
-use Rattle.std.specs.Prelude.{◌≡◌, ◌≢◌, ◌⊎◌, ℕ, Bool, true, false, ◌||◌, List, [], ◌∷◌, ◌++◌, ⊤, Option, Some, None, IfSome, IsUtf8, map, take, length, unwrap_or, codes}
-use Rattle.memchr.specs.Find.{IsFirstByte, is_byte}
+use Rattle.std.specs.Prelude.{◌≡◌, ◌≢◌, ◌⊎◌, ℕ, Bool, true, false, ◌||◌, List, [], ◌∷◌, ◌++◌, ⊤, Option, Some, None, IfSome, IsUtf8, map, take, drop, length, unwrap_or, codes}
+use Rattle.memchr.specs.Find.{IsFirstByte, is_byte, is_byte3}
 use Rattle.fluent_serve.specs.Text.{Text}
 use Rattle.fluent_serve.specs.Frames.{ended}
 use Rattle.fluent_serve.specs.Devices.{HasFailed}
-use Rattle.fluent_grammar.specs.Words.{carriage_return}
+use Rattle.fluent_grammar.specs.Words.{carriage_return, equals, line_feed, space}
 use Rattle.fluent_grammar.specs.Tiling.{errors}
 use Rattle.fluent_parsed.specs.ErrorView.{error_told, error_view}
 use Rattle.fluent_tidy.specs.Reasons.{IsReason}
@@ -89,9 +89,16 @@ shape_finding offset entry = record {
   hint = Some (codes "write `.`, `[`, `*` or `{` at the start of a line of text as `{\"[\"}`, give each variant a name, and each comment a text");
 }
 
--- the entry that begins at an offset, whatever its id is
-pub record IsShapeAt (offset : ℕ) (finding : Finding) : Type 0 where
+-- the id at the front of an entry, a term's with its minus: up to a space, an equals sign or the end of its line
+pub record IsIdOf (entry id : Text) : Type 0 where
+  pub place : Option ℕ
+  pub first : IsFirstByte (is_byte3 space equals line_feed) entry place
+  pub is : id ≡ take (unwrap_or place (length entry)) entry
+
+-- the entry of a source that begins at an offset: its id, if one is named
+pub record IsShapeAt (source : Text) (offset : ℕ) (finding : Finding) : Type 0 where
   pub entry : Option Text
+  pub named : IfSome entry (IsIdOf (drop offset source))
   pub is : finding ≡ shape_finding offset entry
 
 -- a report on a finding of this kind
@@ -105,7 +112,7 @@ abbrev pub IsReport : Text → Text → TidyError → Text → Type 0
 IsReport name source Memory report = (report ≡ failure_line name (codes "memory ran out") None) ⊎ IsDepthReport name source report
 IsReport name source CarriageReturn report = IsReportOf (IsReturn source) name source report
 IsReport name source (Damaged found) report = report ≡ damage_report name source
-IsReport name source (NotTidy offset) report = IsReportOf (IsShapeAt offset) name source report
+IsReport name source (NotTidy offset) report = IsReportOf (IsShapeAt source offset) name source report
 
 -- if the reason is damage, it has the errors of the source
 abbrev pub HasItsErrors : Text → TidyError → Type 0
@@ -226,12 +233,21 @@ pub record AreTidied (check : Bool) (paths : List Text) (before after : State) (
   pub through : GoesThrough check middle (each_once listed) done after
   pub is : said ≡ said_of_listed done listed
 
--- The first of them are, if memory ran out: what the files hold is what they did after one of them.
-pub record AreTidiedFirst (check : Bool) (before after : State) : Type 0 where
-  pub names : List Text
+-- The first of these files were gone through when memory ran out: what the files hold is what they did after one of them.
+pub record GoesThroughFirst (check : Bool) (names : List Text) (before after : State) : Type 0 where
+  pub count : ℕ
   pub said : Said
-  pub middle : State
   pub there : State
-  pub listed : middle.contents ≡ before.contents
-  pub through : GoesThrough check middle names said there
+  pub through : GoesThrough check before (take count names) said there
   pub stopped : after.contents ≡ there.contents
+
+-- the first of the files that the paths stand for were
+pub record AreFirstTidied (check : Bool) (paths : List Text) (before after : State) : Type 0 where
+  pub listed : Listed
+  pub middle : State
+  pub lists : AreListed before paths listed middle
+  pub through : GoesThroughFirst check (each_once listed) middle after
+
+-- Memory ran out: while the paths were listed, and then the files hold what they held, or later.
+abbrev pub AreTidiedFirst : Bool → List Text → State → State → Type 0
+AreTidiedFirst check paths before after = (after.contents ≡ before.contents) ⊎ AreFirstTidied check paths before after

@@ -1,6 +1,7 @@
 //! Why a call on a file failed.
-ghost use Rattle.std.specs.Prelude.{◌≡◌, ◌↔◌, IsTrue, None};
+ghost use Rattle.std.specs.Prelude.{◌≡◌, ◌↔◌, IsTrue, None, option_copied};
 ghost use Rattle.std.specs.IoError.{error_kind, raw_os_error};
+ghost use Rattle.ftl_files.specs.Causes.{words_for};
 
 use std::io;
 use std::io::ErrorKind;
@@ -14,7 +15,9 @@ pub(crate) fn is_refused(error: &io::Error) -> bool
 }
 
 /// The error of a call on a file, in words, if there are some.
-pub(crate) fn words_of(error: &io::Error) -> Option<&'static str> {
+pub(crate) fn words_of(error: &io::Error) -> Option<&'static str>
+    ensures { option_copied result ≡ words_for (error_kind error.now) (raw_os_error error.now) }
+{
     match error.kind() {
         ErrorKind::NotFound => Some("no such file"),
         ErrorKind::IsADirectory => Some("is a folder"),

@@ -1,8 +1,8 @@
 //! Sources that nest too deep.
 #![tactic(auto)]
 
-ghost use Rattle.std.specs.Prelude.{◌-◌, IfOk, IfSome, OnErr, drop, string_bytes, take};
-ghost use Rattle.ftl_files.specs.Depth.{IsDeepAt, IsDeepOn, IsDepthReport, NestsTooDeep};
+ghost use Rattle.std.specs.Prelude.{◌↔◌, ◌-◌, IfOk, IfSome, IsTrue, OnErr, drop, string_bytes, take};
+ghost use Rattle.ftl_files.specs.Depth.{IsDeepAt, IsDeepOn, IsDepthReport, IsShallow, NestsTooDeep};
 
 use fluent_parser::{StackBudget, TooDeep, parse_unless_too_deep};
 use lint_finding::SourcePosition;
@@ -36,7 +36,9 @@ pub(crate) fn depth_report(
 
 /// Whether a source has too few braces and parentheses to nest too deep. If so, it isn't read for
 /// that.
-fn is_shallow(source: &str) -> bool {
+fn is_shallow(source: &str) -> bool
+    ensures { IsTrue result ↔ IsShallow source.now }
+{
     memchr2_iter(b'{', b'(', source.as_bytes())
         .take(SHALLOW)
         .count()

@@ -10,6 +10,7 @@ mod depth;
 mod ends;
 mod errors;
 mod folder;
+pub mod laws;
 mod listed;
 mod listing;
 mod reading;

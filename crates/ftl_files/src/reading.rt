@@ -120,7 +120,7 @@ impl ReadSources {
 
 /// Reads the files that paths stand for, each once, one after the other. Of a file that can't be
 /// read, or whose source nests too deep for that, a line says so, and of a path that stands for no
-/// file.
+/// file. The files stay as they are.
 ///
 /// # Errors
 /// [`AllocError`] if memory runs out; nothing is kept.
@@ -129,7 +129,8 @@ pub fn read_sources<F: Folder>(
     alloc: Global,
     paths: &[&str],
 ) -> Result<ReadSources, AllocError>
-    ensures { IfOk result (AreReadOn F.Folder paths.now folder.old folder.new) }
+    ensures read { IfOk result (AreReadOn F.Folder paths.now folder.old folder.new) }
+    ensures kept { F.contents folder.new ≡ F.contents folder.old }
 {
     let listed = list_paths(folder, alloc, paths)?;
     let names = each_once(alloc, &listed.names)?;
@@ -144,7 +145,8 @@ fn read_all<F: Folder>(
     alloc: Global,
     names: &[&str],
 ) -> Result<ReadSources, AllocError>
-    ensures { IfOk result (ReadsThroughOn F.Folder names.now folder.old folder.new) }
+    ensures read { IfOk result (ReadsThroughOn F.Folder names.now folder.old folder.new) }
+    ensures kept { F.contents folder.new ≡ F.contents folder.old }
 {
     let mut read = ReadSources::new(alloc);
     for name in names {
@@ -160,7 +162,8 @@ fn read_one<F: Folder>(
     name: &str,
     read: &mut ReadSources,
 ) -> Result<(), AllocError>
-    ensures { OnOk result (ReadsOneOn F.Folder name.now folder.old folder.new read.old read.new) }
+    ensures read { OnOk result (ReadsOneOn F.Folder name.now folder.old folder.new read.old read.new) }
+    ensures kept { F.contents folder.new ≡ F.contents folder.old }
 {
     match read_source(folder, alloc, name)? {
         Ok(source) => add_read(alloc, name, source, read),

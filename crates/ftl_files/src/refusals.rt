@@ -1,5 +1,5 @@
 //! The reports on sources that have no tidy text.
-ghost use Rattle.std.specs.Prelude.{◌≡◌, IfOk, map, option_map, string_bytes};
+ghost use Rattle.std.specs.Prelude.{◌≡◌, IfOk, IfSome, drop, map, option_map, string_bytes};
 ghost use Rattle.std.specs.Option.{option_map_or};
 ghost use Rattle.fluent_grammar.specs.Tiling as tiling;
 ghost use Rattle.fluent_parsed.specs.ErrorView.{error_told, error_view};
@@ -7,7 +7,7 @@ ghost use Rattle.fluent_tidy.specs.Reasons.{IsReason};
 ghost use Rattle.fluent_tidy.specs.TidyText.{plain};
 ghost use Rattle.lint_finding.specs.View.{finding_view};
 ghost use Rattle.ftl_files.specs.TidyView.{end_view};
-ghost use Rattle.ftl_files.specs.Tidying.{HasItsErrors, IsReport, IsReturn, IsShapeAt, IsSourceEnd, damage_report, end_for, finding_report, findings_report};
+ghost use Rattle.ftl_files.specs.Tidying.{HasItsErrors, IsIdOf, IsReport, IsReturn, IsShapeAt, IsSourceEnd, damage_report, end_for, finding_report, findings_report};
 
 use crate::depth::depth_report;
 use crate::ends::FileEnd;
@@ -16,7 +16,7 @@ use fluent_tidy::{TidyError, with_line_feeds, without_mark};
 use lint_files::syntax_findings;
 use lint_finding::{File, FileFindings, Finding, Severity};
 use lint_report::{Format, report};
-use memchr::memchr;
+use memchr::{memchr, memchr3};
 use std::alloc::{AllocError, Global};
 
 /// What to do about an entry that would be read otherwise.
@@ -151,7 +151,7 @@ fn return_finding(alloc: Global, source: &str) -> Result<Finding, AllocError>
 
 /// The entry of a source that begins at an offset, and has no tidy text by itself.
 fn shape_finding(alloc: Global, source: &str, offset: usize) -> Result<Finding, AllocError>
-    ensures { IfOk result (λ finding. IsShapeAt offset (finding_view finding)) }
+    ensures { IfOk result (λ finding. IsShapeAt source.now offset (finding_view finding)) }
 {
     Ok(Finding {
         offset,
@@ -164,11 +164,25 @@ fn shape_finding(alloc: Global, source: &str, offset: usize) -> Result<Finding, 
 }
 
 /// The id of the entry at an offset, if it has one.
-fn entry_at(alloc: Global, source: &str, offset: usize) -> Result<Option<String>, AllocError> {
-    let part = source.get(offset..).unwrap_or("");
-    let id = part.split([' ', '=', '\n']).next().unwrap_or("");
-    if id.is_empty() || id.starts_with('#') {
+fn entry_at(alloc: Global, source: &str, offset: usize) -> Result<Option<String>, AllocError>
+    ensures { IfOk result (λ entry. IfSome entry (λ id.
+        IsIdOf (drop offset source.now) (string_bytes id))) }
+{
+    let Some(entry) = source.get(offset..) else {
         return Ok(None);
+    };
+    match id_of(entry) {
+        Some(id) if !id.is_empty() && !id.starts_with('#') => {
+            Ok(Some(String::from_str(alloc, id)?))
+        }
+        _ => Ok(None),
     }
-    Ok(Some(String::from_str(alloc, id)?))
+}
+
+/// The id at the front of an entry. Of a comment it is the sign, or empty.
+fn id_of(entry: &str) -> Option<&str>
+    ensures { IfSome result (λ id. IsIdOf entry.now id.now) }
+{
+    let end = memchr3(b' ', b'=', b'\n', entry.as_bytes()).unwrap_or(entry.len());
+    entry.get(..end)
 }

@@ -1,6 +1,6 @@
 //! Tidying files in place.
 ghost use Rattle.std.specs.Prelude.{◌≡◌, false, IfOk, IfSome, OnErr};
-ghost use Rattle.ftl_files.specs.TidyView.{AreTidiedFirstOn, AreTidiedOn, EndsOnFolder, GoesThroughOn, HoldsUntidy, IsReadOn, end_view};
+ghost use Rattle.ftl_files.specs.TidyView.{AreTidiedFirstOn, AreTidiedOn, EndsOnFolder, GoesThroughFirstOn, GoesThroughOn, HoldsUntidy, IsReadOn, end_view};
 ghost use Rattle.ftl_files.specs.Tidying.{IsSourceEnd};
 
 use crate::ends::{Failure, FileEnd};
@@ -16,7 +16,7 @@ use std::alloc::{AllocError, Global};
 /// for no file is reported.
 ///
 /// # Errors
-/// [`AllocError`] if memory runs out: the first files were tidied.
+/// [`AllocError`] if memory runs out: the first of these files were tidied, and no other changed.
 pub fn tidy_files<F: Folder>(
     folder: &mut F,
     alloc: Global,
@@ -24,7 +24,7 @@ pub fn tidy_files<F: Folder>(
     paths: &[&str],
 ) -> Result<TidiedFiles, AllocError>
     ensures tidied { IfOk result (AreTidiedOn F.Folder check paths.now folder.old folder.new) }
-    ensures stopped { OnErr result (AreTidiedFirstOn F.Folder check folder.old folder.new) }
+    ensures stopped { OnErr result (AreTidiedFirstOn F.Folder check paths.now folder.old folder.new) }
 {
     let listed = list_paths(folder, alloc, paths)?;
     let names = each_once(alloc, &listed.names)?;
@@ -41,7 +41,7 @@ fn tidy_all<F: Folder>(
     names: &[&str],
 ) -> Result<TidiedFiles, AllocError>
     ensures tidied { IfOk result (GoesThroughOn F.Folder check names.now folder.old folder.new) }
-    ensures stopped { OnErr result (AreTidiedFirstOn F.Folder check folder.old folder.new) }
+    ensures stopped { OnErr result (GoesThroughFirstOn F.Folder check names.now folder.old folder.new) }
 {
     let mut tidied = TidiedFiles::new(alloc);
     for name in names {
@@ -88,14 +88,14 @@ fn tidy_read<F: Folder>(
     }
 }
 
-/// Reads a source; why it can't be read, if it can't.
+/// Reads a source; why it can't be read, if it can't. The files stay as they are.
 pub(crate) fn read_source<F: Folder>(
     folder: &mut F,
     alloc: Global,
     name: &str,
 ) -> Result<Result<String, Failure>, AllocError>
     ensures read { IfOk result (IsReadOn F.Folder name.now folder.old folder.new) }
-    ensures kept { OnErr result (F.contents folder.new ≡ F.contents folder.old) }
+    ensures kept { F.contents folder.new ≡ F.contents folder.old }
 {
     let bytes = match folder.read(alloc, name) {
         Ok(bytes) => bytes,

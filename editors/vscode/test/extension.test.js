@@ -73,9 +73,15 @@ test.afterEach(async () => {
 
 const of = (type) => state.providers[type].provider;
 const place = (words, inside = 0) => {
-  const before = POLISH.slice(0, POLISH.indexOf(words) + inside).split("\n");
+  const before = polish.text.slice(0, polish.text.indexOf(words) + inside).split("\n");
   return { line: before.length - 1, character: before[before.length - 1].length };
 };
+/** Words of the Polish file are replaced, as if somebody typed it. */
+function change(words, text) {
+  const range = { start: place(words), end: place(words, words.length) };
+  Object.assign(polish, { text: polish.text.replace(words, text), version: polish.version + 1 });
+  events.onDidChangeTextDocument.fire({ document: polish, contentChanges: [{ range, text }] });
+}
 const codes = () => state.diagnostics.get(polish.uri.toString())?.map((each) => each.code.value);
 
 test("findings, and what changes them", async () => {
@@ -86,8 +92,7 @@ test("findings, and what changes them", async () => {
   assert.deepStrictEqual([found.severity, found.source, found.range.start.character], [0, "kozhvadi", 11]);
   assert.match(found.code.target.toString(), /lint\.md#L\d+$/);
   assert.strictEqual(found.relatedInformation[0].message, "the message of the reference");
-  Object.assign(polish, { text: POLISH.replace("$nmae", "$name"), version: 2 });
-  events.onDidChangeTextDocument.fire({ document: polish });
+  change("$nmae", "$name");
   await until(() => codes()?.length === 1);
   fs.appendFileSync(path.join(root, "l10n/en-US/m.ftl"), "-t = T\n");
   fs.writeFileSync(path.join(root, "l10n/pl/n.ftl"), "b = x\n");
@@ -131,10 +136,15 @@ test("what the editor asks", async () => {
   const all = await of("CodeActions").provideCodeActions(polish, range, { only: { value: "source.fixAll" } });
   assert.ok(all.every((each) => each.kind.value.startsWith("source.fixAll")));
   assert.deepStrictEqual(await of("DocumentFormattingEdit").provideDocumentFormattingEdits(polish, {}), []);
-  Object.assign(polish, { text: `${POLISH}x   =   y\n`, version: 2 });
-  events.onDidChangeTextDocument.fire({ document: polish });
+  change("-t = T\n", "-t = T\nx   =   y\nz = { NUMBER(1) }\n");
   const [tidied] = await of("DocumentFormattingEdit").provideDocumentFormattingEdits(polish, {});
   assert.strictEqual(tidied.newText, "x = y\n");
+  const selected = { start: place("x   ="), end: place("x   =") };
+  const [part] = await of("DocumentRangeFormattingEdit").provideDocumentRangeFormattingEdits(polish, selected, {});
+  assert.strictEqual(part.newText, "x = y");
+  const help = await of("SignatureHelp").provideSignatureHelp(polish, place("NUMBER(", 7));
+  assert.deepStrictEqual([help.signatures[0].parameters[help.activeParameter].label, help.activeSignature], ["a number", 0]);
+  assert.strictEqual(await of("SignatureHelp").provideSignatureHelp(polish, at), null);
 });
 
 test("renaming names and files", async () => {

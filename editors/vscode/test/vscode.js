@@ -111,6 +111,9 @@ module.exports = {
   CodeLens: made("range", "command"),
   DocumentHighlight: made("range", "kind"),
   SemanticTokens: made("data"),
+  SignatureHelp: made(),
+  SignatureInformation: made("label"),
+  ParameterInformation: made("label"),
   SemanticTokensLegend: made("types", "modifiers"),
   env: { openExternal: async (uri) => state.opened.push(uri.toString()) },
   commands: {

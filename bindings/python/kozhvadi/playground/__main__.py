@@ -74,6 +74,7 @@ def main() -> int:
             "reference": project.references.get(name, "" if project.files else only),
             "locale": words.locale,
             "name": name,
+            "example": _EXAMPLE,
             "writes": words.write and bool(project.files),
             "project": project,
         }

@@ -2,6 +2,7 @@
 
 from __future__ import annotations
 
+import datetime
 import re
 from collections import Counter
 from collections.abc import Iterable
@@ -199,7 +200,7 @@ def _part(
         "text": text,
         "errors": errors,
         "variables": [
-            {"name": each.name, "kind": _kind(each), "value": str(given[each.name]), "keys": each.keys}
+            {"name": each.name, "kind": _kind(each), "value": _field(given[each.name]), "keys": each.keys}
             for each in variables
         ],
         "cases": [_case(bundle, entry.id, attribute, case, given) for case in cases if case.label],
@@ -207,11 +208,23 @@ def _part(
 
 
 def _kind(variable: Variable) -> str:
-    return "number" if variable.is_numeric else "choice" if variable.keys else "text"
+    if variable.is_numeric:
+        return "number"
+    return "date" if variable.is_date else "choice" if variable.keys else "text"
+
+
+def _field(sample: Sample) -> str:
+    """What a field shows of a value: a date as a field for dates has it."""
+    return sample.strftime("%Y-%m-%dT%H:%M") if isinstance(sample, datetime.datetime) else str(sample)
 
 
 def _value(text: str, variable: Variable) -> Sample:
-    """The number that a field has, if it is one and a number is wanted, and else its text."""
+    """The number that a field has, if it is one and a number is wanted, a date likewise, and else its text."""
+    if variable.is_date and not variable.is_numeric:
+        try:
+            return datetime.datetime.fromisoformat(text).astimezone()
+        except (ValueError, OverflowError):
+            return text
     is_number = variable.is_numeric and _NUMBER.fullmatch(text) and abs(float(text)) < 2**63
     return Number(text) if is_number else text
 

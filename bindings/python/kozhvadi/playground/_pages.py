@@ -66,7 +66,7 @@ class Playground(ThreadingHTTPServer):
         self.project = project if isinstance(project, Project) else Project()
         self.writes = started.get("writes") is True
         files = {"files": self.project.files, "references": self.project.references}
-        return {"name": "", "writes": False, **started, **files, "languages": languages()}
+        return {"name": "", "writes": False, "example": "", **started, **files, "languages": languages()}
 
     @property
     def address(self) -> str:

@@ -34,10 +34,14 @@ const WORDS = new RegExp(
     /(?<key>^ *\*?\[[^\]\n]*\])/,
     /(?<brace>[{}])/,
     /(?<string>"(?:[^"\\\n]|\\.)*"?)/,
-    /(?<variable>\$[A-Za-z][\w-]*|-[A-Za-z][\w-]*(?:\.[A-Za-z][\w-]*)?|[A-Z][A-Z0-9_-]*(?=\())/,
+    /(?<variable>\$[A-Za-z][\w-]*)/,
+    /(?<term>-[A-Za-z][\w-]*(?:\.[A-Za-z][\w-]*)?)/,
+    /(?<function>[A-Z][A-Z0-9_-]*(?=\())/,
   ].map((each) => each.source).join("|"),
   "gm",
 );
+
+const IN_BRACES = new Set(["string", "variable", "term", "function"]);
 
 /** The stretches of a line that have a colour, and how many braces are open after it. */
 function coloured(line, open) {
@@ -48,7 +52,7 @@ function coloured(line, open) {
     if (match[0] === "{") depth += 1;
     if (match[0] === "}") depth = Math.max(0, depth - 1);
     if (kind === "id" || kind === "comment") depth = 0;
-    if ((kind === "string" || kind === "variable") && !depth) continue;
+    if (IN_BRACES.has(kind) && !depth) continue;
     found.push({ start: match.index, end: match.index + match[0].length, name: `t-${kind}` });
   }
   return [found, depth];
@@ -267,9 +271,7 @@ function show(found, sent) {
   for (const name of ["source", "reference"]) $(name).lang = name === "source" ? found.locale : "";
   const cards = found.messages.map((message) => known(message, found.locale));
   state.cards = new Map(cards.map((each) => [each.dataset.id, each]));
-  if (!cards.length) {
-    cards.push(element("p", { class: "nothing" }, "There is no message yet. Type ", element("code", {}, "hello = Hello, { $name }!"), " into the source."));
-  }
+  if (!cards.length) cards.push(nothing());
   if (found.more) cards.push(element("p", { class: "nothing" }, `${found.more} more messages aren't shown. Those near the caret are.`));
   arrange($("messages"), cards);
   if (focus) {
@@ -278,6 +280,18 @@ function show(found, sent) {
     if (again?.setSelectionRange && place !== undefined && place !== null) again.setSelectionRange(place, place);
   }
   point();
+}
+
+/** What stands where the texts would be, if there are none. */
+function nothing() {
+  const words = ["There is no message yet. Type ", element("code", {}, "hello = Hello, { $name }!"), " into the source."];
+  const made = element("div", { class: "nothing" }, element("p", {}, ...words));
+  if (state.example && !state.name) {
+    const show = element("button", { type: "button" }, "Show an example");
+    show.addEventListener("click", () => mend($("source"), { start: 0, end: $("source").value.length, text: state.example }));
+    made.append(show);
+  }
+  return made;
 }
 
 /** The card of a message: the one that is there, if it shows the same. */
@@ -432,6 +446,7 @@ function shown(message, part, locale) {
 function field(message, part, variable) {
   const input = element("input", { type: "text", value: variable.value, class: `is-${variable.kind}`, dir: "auto", autocomplete: "off", spellcheck: false, "aria-label": `$${variable.name}, in ${message.id}` });
   if (variable.kind === "number") input.inputMode = "decimal";
+  if (variable.kind === "date") input.type = "datetime-local";
   if (variable.kind === "choice") input.title = `One of ${variable.keys.join(", ")}`;
   input.dataset.keep = `${message.id} ${part.attribute ?? ""} ${variable.name}`;
   input.dataset.variable = variable.name;
@@ -601,6 +616,7 @@ function begin(start, languages) {
   $("file").value = state.name;
   $("files").hidden = names.length < 2 || !state.name;
   $("save").hidden = !(state.writes && state.name);
+  $("download").hidden = !$("save").hidden;
   $("compare").open = Boolean(start.reference);
   state.arguments = { ...start.arguments };
   for (const name of ["source", "reference"]) {
@@ -681,6 +697,13 @@ async function share() {
   setTimeout(() => ($("share").textContent = "Copy link"), 2000);
 }
 
+/** Gives the source to the browser as a file. */
+function download() {
+  const url = URL.createObjectURL(new Blob([$("source").value], { type: "text/plain" }));
+  element("a", { href: url, download: state.name.split("/").pop() || "messages.ftl" }).click();
+  setTimeout(() => URL.revokeObjectURL(url), 1000);
+}
+
 async function tidy() {
   try {
     const found = await ask("tidy", { source: $("source").value });
@@ -729,6 +752,7 @@ function listen() {
   $("marks").addEventListener("change", look);
   $("share").addEventListener("click", share);
   $("tidy").addEventListener("click", tidy);
+  $("download").addEventListener("click", download);
   $("theme").addEventListener("change", () => {
     remember($("theme").value);
     dress($("theme").value);
@@ -747,7 +771,7 @@ async function main() {
   listen();
   try {
     const start = await (await fetch("start")).json();
-    Object.assign(state, { languages: start.languages, files: start.files, references: start.references, writes: start.writes });
+    Object.assign(state, { languages: start.languages, files: start.files, references: start.references, writes: start.writes, example: start.example });
     await begin((await restored()) ?? start, start.languages);
   } catch (error) {
     say(`The server doesn't answer: ${error.message}`);

@@ -5,9 +5,8 @@
 >>> bundle.format_pattern(bundle.get_message("welcome").value, {"name": "Jane"})
 ('Welcome, Jane!', [])
 
-A number is written as the locale does, such as `1,234.5` in English, and a date as `str` shows it. Functions of the
-program's own get what was passed, such as a date, and `NUMBER` may be among them. There is no `DATETIME` but one of your
-own: `fluent_date` raises `NotImplementedError`. Any thread may ask.
+A number is written as the locale does, such as `1,234.5` in English, and a date too, such as `11/28/2026`. Functions of the
+program's own get what was passed, such as a date, and `NUMBER` and `DATETIME` may be among them. Any thread may ask.
 """
 
 from .bundle import FluentBundle, Message, Pattern

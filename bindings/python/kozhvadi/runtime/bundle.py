@@ -10,7 +10,7 @@ from .._bundle import Bundle
 from .._errors import FluentWarning, ResolverError, UnknownLocaleError
 from .._functions import never_called
 from .._locks import new_lock
-from .builtins import NUMBER
+from .builtins import BUILTINS
 from .errors import FluentCyclicReferenceError, FluentFormatError, FluentReferenceError
 from .resource import FluentResource
 
@@ -123,13 +123,13 @@ class FluentBundle:
 
 
 def _called(functions: Mapping[str, Callable[..., Any]]) -> dict[str, Callable[..., Any]]:
-    """The functions that messages may call. It warns of the others. `NUMBER` is that of the library, which is faster, if it
-    is the one of this package.
+    """The functions that messages may call. It warns of the others. `NUMBER` and `DATETIME` are those that each bundle has
+    if they are those of this package.
     """
     reasons = {name: never_called(name) for name in functions}
     for reason in filter(None, reasons.values()):
         warnings.warn(reason, FluentWarning, stacklevel=3)
-    is_called = {name: not reason and (name, functions[name]) != ("NUMBER", NUMBER) for name, reason in reasons.items()}
+    is_called = {name: not reason and BUILTINS.get(name) is not functions[name] for name, reason in reasons.items()}
     return {name: function for name, function in functions.items() if is_called[name]}
 
 

@@ -2,21 +2,20 @@
 
 from __future__ import annotations
 
-from typing import NoReturn
-
+from .._dates import DateFormatOptions, FluentDate, FluentDateTime, FluentDateType, FluentTime, fluent_date
 from .._numbers import FluentDecimal, FluentFloat, FluentInt, FluentNumber, NumberFormatOptions, fluent_number
 
 __all__ = [
+    "DateFormatOptions",
+    "FluentDate",
+    "FluentDateTime",
+    "FluentDateType",
     "FluentDecimal",
     "FluentFloat",
     "FluentInt",
     "FluentNumber",
+    "FluentTime",
     "NumberFormatOptions",
     "fluent_date",
     "fluent_number",
 ]
-
-
-def fluent_date(date: object, **_options: object) -> NoReturn:
-    """There are no dates."""
-    raise NotImplementedError("there is no DATETIME: format the date, and pass its text")

@@ -11,7 +11,7 @@ from ._moving import FILTERS
 from ._session import Params
 
 _CAPABILITIES = {
-    "textDocumentSync": {"openClose": True, "change": 1, "save": {"includeText": False}},
+    "textDocumentSync": {"openClose": True, "change": 2, "save": {"includeText": False}},
     "definitionProvider": True,
     "referencesProvider": True,
     "documentHighlightProvider": True,
@@ -20,6 +20,8 @@ _CAPABILITIES = {
     "documentSymbolProvider": True,
     "workspaceSymbolProvider": True,
     "documentFormattingProvider": True,
+    "documentRangeFormattingProvider": True,
+    "signatureHelpProvider": {"triggerCharacters": ["("], "retriggerCharacters": [",", ":"]},
     "renameProvider": {"prepareProvider": True},
     "codeActionProvider": {"codeActionKinds": KINDS},
     "codeLensProvider": {"resolveProvider": False},

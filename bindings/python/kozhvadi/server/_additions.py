@@ -23,7 +23,7 @@ class Addition(NamedTuple):
 def additions(document: Document, original: Document, ids: Iterable[str]) -> list[Addition]:
     """What adds messages of a file of the reference to its translation, in the order of the reference: after the
     message that is before it there, or else before the first one that is after it."""
-    wanted, end = set(ids), _line_end(document.source)
+    wanted, end = set(ids), line_end(document.source)
     have = {entry.key: entry for entry in reversed(document.places.entries)}
     after: dict[int, str] = {}
     leading: list[str] = []
@@ -86,10 +86,11 @@ def without(original: Document, have: Collection[str]) -> str:
         if entry.key in have:
             start = block_start(source, entry.start)
             parts.append(source[at:start])
-            line_end = source.find(b"\n", entry.end)
-            at = len(source) if line_end < 0 else line_end + 1
+            last = source.find(b"\n", entry.end)
+            at = len(source) if last < 0 else last + 1
     return b"".join([*parts, source[at:]]).decode(errors="replace")
 
 
-def _line_end(source: bytes) -> str:
+def line_end(source: bytes) -> str:
+    """The line ends of a source: CR LF if there is one."""
     return "\r\n" if b"\r\n" in source else "\n"

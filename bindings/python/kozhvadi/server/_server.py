@@ -9,13 +9,13 @@ from queue import Empty
 from typing import Any
 
 from .. import __version__
-from .._linting import TidyError, tidy
 from .._stopping import stop_if
 from ._abilities import Abilities
 from ._actions import CREATE_FILES, Actions
+from ._changes import changed
 from ._checks import Checks
 from ._completion import Completion
-from ._documents import Document
+from ._formatting import Formatting
 from ._highlighting import Highlighting
 from ._hints import Hints
 from ._hovering import Hovering
@@ -25,6 +25,7 @@ from ._naming import Naming
 from ._parent import watch
 from ._session import INVALID_PARAMS, PARSE_ERROR, REQUEST_FAILED, Params, Refused, Session
 from ._settings import Settings, own, own_among_others, settings_in
+from ._signatures import Signatures
 from ._structure import Structure
 from ._wire import Damaged, Input, Json, Output, writer
 from ._workspace import Workspace
@@ -48,7 +49,8 @@ class Server:
         self._naming, self._hovering = Naming(self.workspace), Hovering(self.workspace)
         self._completion, self._moving = Completion(self.workspace), Moving(self.workspace)
         self._structure, self._hints = Structure(self.workspace), Hints(self.workspace)
-        self._highlighting = Highlighting(self.workspace)
+        self._highlighting, self._formatting = Highlighting(self.workspace), Formatting(self.workspace)
+        self._signatures = Signatures(self.workspace)
         self._unchecked: dict[str, None] = {}
         self._shown: set[str] = set()
         self._initial: dict[str, Any] = {}
@@ -72,9 +74,11 @@ class Server:
             "textDocument/rename": self._naming.rename,
             "textDocument/hover": self._hovering.hover,
             "textDocument/completion": self._completion.complete,
+            "textDocument/signatureHelp": self._signatures.help,
             "textDocument/codeAction": self._checks_asked(self._actions.actions),
             "workspace/executeCommand": self._checks_asked(self._execute),
-            "textDocument/formatting": self._format,
+            "textDocument/formatting": self._formatting.document,
+            "textDocument/rangeFormatting": self._formatting.selection,
             "textDocument/foldingRange": self._structure.folds,
             "textDocument/selectionRange": self._structure.selections,
             "textDocument/inlayHint": self._hints.hints,
@@ -205,12 +209,12 @@ class Server:
     def _change(self, params: Params) -> None:
         changes = params["contentChanges"].items
         uri = params["textDocument"]["uri"].text
-        if uri not in self.workspace.open:
+        document = self.workspace.open.get(uri)
+        if document is None:
             raise Refused(REQUEST_FAILED, f"{uri} isn't open")
-        if any(change.get("range").value is not None for change in changes):
-            raise Refused(REQUEST_FAILED, "the text of a change is the complete text")
         if changes:
-            self._take(uri, changes[-1]["text"].text, params["textDocument"].get("version").value)
+            text = changed(document.text, changes, self._can.counts_bytes)
+            self._take(uri, text, params["textDocument"].get("version").value)
 
     def _take(self, uri: str, text: str, version: object) -> None:
         is_number = isinstance(version, int) and not isinstance(version, bool)
@@ -245,33 +249,6 @@ class Server:
         if files:
             applied = {"label": "Create missing files", "edit": self._actions.creating(document, files)}
             self._request("workspace/applyEdit", applied)
-
-    def _format(self, params: Params) -> list[Json]:
-        """The edit that tidies a document, of the lines that change."""
-        document = self.workspace.document(params["textDocument"]["uri"].text)
-        if document is None:
-            raise Refused(REQUEST_FAILED, "the document isn't open")
-        try:
-            text = tidy(document.text)
-        except TidyError as error:
-            raise Refused(REQUEST_FAILED, f"{document.name} can't be tidied: {error}") from error
-        return _edits(document, text)
-
-
-def _edits(document: Document, text: str) -> list[Json]:
-    """One edit of the lines between those that stay."""
-    old, new = document.text.splitlines(keepends=True), text.splitlines(keepends=True)
-    first = 0
-    while first < min(len(old), len(new)) and old[first] == new[first]:
-        first += 1
-    last = 0
-    while last < min(len(old), len(new)) - first and old[-1 - last] == new[-1 - last]:
-        last += 1
-    if first == len(old) == len(new):
-        return []
-    start = len("".join(old[:first]).encode())
-    end = len("".join(old[: len(old) - last]).encode())
-    return [{"range": document.range(start, end), "newText": "".join(new[first : len(new) - last])}]
 
 
 def _with_params(handlers: dict[str, Callable[[Params], object]]) -> dict[str, Callable[[object], object]]:

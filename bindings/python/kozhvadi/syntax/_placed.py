@@ -1,304 +1,140 @@
-"""Makes the nodes of a tree from its JSON value, each at its place in the source.
+"""Makes the nodes of a tree from the library's lines, which say what each node is and where.
 
-The library has read the source, so that nothing has to be found out here but where each node is: a `Reader` goes along
-the source and the tree together.
+A line comes after those of the nodes in it. So these are made when it comes: the last ones, from the first that begins
+where it does or later.
 """
 
 from __future__ import annotations
 
-import re
-from collections.abc import Callable
-from typing import Any, TypeVar, cast
+from bisect import bisect_left
+from collections.abc import Callable, Iterable
+from itertools import accumulate
+from typing import Any, Union
 
 from . import ast
 
-_SPACES = re.compile(" *")
-# Blank lines, from the start or the end of a line on.
-_BLANK_LINES = re.compile("(?: *\r?\n)*")
-# What comes before a token or an entry, which begins with no white space. More than blanks: the library takes any
-# white space off the end of a pattern.
-_WHITE = re.compile(r"\s*")
-
-Json = dict[str, Any]
-Node = TypeVar("Node", bound=ast.SyntaxNode)
+# What a byte of a text in UTF-8 counts: 1 if it is the first one of a character, and else 0.
+_COUNTS = bytes(not 0x80 <= byte < 0xC0 for byte in range(256))
 
 
-class Reader:
-    """A place in a source, which goes on behind each node that is made."""
-
-    def __init__(self, source: str, with_spans: bool) -> None:
-        self.source = source
-        self.at = 0
-        self._with_spans = with_spans
-        self._inline: dict[str, Callable[[Json], Any]] = {
-            "StringLiteral": self._string,
-            "NumberLiteral": self._number,
-            "VariableReference": self._variable,
-            "MessageReference": self._message_reference,
-            "TermReference": self._term_reference,
-            "FunctionReference": self._function_reference,
-            "Placeable": self._placeable,
-            "Select": self._select,
-        }
-
-    def entries(self, body: list[Json]) -> list[ast.EntryType]:
-        """The entries of a tree."""
-        kinds: dict[str, Callable[[Json], Any]] = {
-            "Message": self._message,
-            "Term": self._term,
-            "Comment": self._comment,
-            "GroupComment": self._group_comment,
-            "ResourceComment": self._resource_comment,
-            "Junk": self._junk,
-        }
-        made: list[ast.EntryType] = []
-        for entry in body:
-            self._skip(_BLANK_LINES if entry["type"] == "Junk" else _WHITE)
-            made.append(kinds[entry["type"]](entry))
-        return made
-
-    def _skip(self, blank: re.Pattern[str]) -> None:
-        self.at = cast(re.Match[str], blank.match(self.source, self.at)).end()
-
-    def _node(self, kind: type[Node], start: int, **fields: Any) -> Node:
-        """A node from a place up to this one. Its class has these fields and no others."""
-        node = kind.__new__(kind)
-        span = None
-        if self._with_spans:
-            span = ast.Span.__new__(ast.Span)
-            span.__dict__ = {"start": start, "end": self.at}
-        node.__dict__ = {"span": span, **fields}
-        return node
-
-    def _line_end(self) -> None:
-        """Goes to the end of the line."""
-        source, end = self.source, self.source.find("\n", self.at)
-        if end < 0:
-            self.at = len(source)
+def entries(source: str, lines: str, with_spans: bool) -> list[ast.EntryType]:
+    """The entries of a source, from the lines of its nodes."""
+    # The nodes that are in no other so far, and where each begins.
+    made: list[Any] = []
+    starts: list[int] = []
+    span = None
+    for kind, start, end in _placed(source, lines):
+        if with_spans:
+            span = ast.Span(start, end)
+        make = _LEAVES.get(kind)
+        if make is not None:
+            made.append(make(source[start:end], span))
         else:
-            self.at = end - (end > self.at and source[end - 1] == "\r")
+            first = bisect_left(starts, start)
+            inside = made[first:]
+            del made[first:], starts[first:]
+            made.append(_OTHERS[kind](inside, span))
+        starts.append(start)
+    return made
 
-    # Entries.
 
-    def _message(self, entry: Json) -> ast.Message:
-        start = self.at
-        comment = self._own_comment(entry)
-        id = self._identifier(entry["id"])
-        value, attributes = self._value(entry), self._attributes(entry)
-        return self._node(ast.Message, start, id=id, value=value, attributes=attributes, comment=comment)
+def _placed(source: str, lines: str) -> Iterable[tuple[str, int, int]]:
+    """The kind of each node, and its place in characters."""
+    words = lines.split()
+    starts, ends = map(int, words[1::3]), map(int, words[2::3])
+    if not source.isascii():
+        index = [0, *accumulate(source.encode().translate(_COUNTS))]
+        starts, ends = map(index.__getitem__, starts), map(index.__getitem__, ends)
+    return zip(words[::3], starts, ends)
 
-    def _term(self, entry: Json) -> ast.Term:
-        start = self.at
-        comment = self._own_comment(entry)
-        self.at += 1
-        id = self._identifier(entry["id"])
-        value, attributes = self._value(entry), self._attributes(entry)
-        return self._node(ast.Term, start, id=id, value=value, attributes=attributes, comment=comment)
 
-    def _own_comment(self, entry: Json) -> ast.Comment | None:
-        """The comment of a message or a term, whose line follows at once."""
-        if entry["comment"] is None:
-            return None
-        comment = self._comment(entry["comment"])
-        self.at = self.source.index("\n", self.at) + 1
-        return comment
+def _comment(kind: type[ast.BaseComment], sign: int) -> Leaf:
+    """What makes a comment whose sign has this length. A space after the sign belongs to neither."""
 
-    def _value(self, entry: Json) -> ast.Pattern | None:
-        """What comes after the name and a `=`."""
-        self._skip(_SPACES)
-        self.at += 1
-        return self._pattern(entry["value"]["elements"]) if entry["value"] else None
+    def make(text: str, span: ast.Span | None) -> ast.BaseComment:
+        lines = text.replace("\r\n", "\n").split("\n")
+        return kind("\n".join(line[sign + 1 :] for line in lines), span=span)
 
-    def _attributes(self, entry: Json) -> list[ast.Attribute]:
-        made = []
-        for attribute in entry["attributes"]:
-            self._skip(_WHITE)
-            start = self.at
-            self.at += 1
-            id = self._identifier(attribute["id"])
-            value = self._value(attribute)
-            made.append(self._node(ast.Attribute, start, id=id, value=value))
-        return made
+    return make
 
-    def _comment(self, comment: Json) -> ast.Comment:
-        return self._comment_of(ast.Comment, comment)
 
-    def _group_comment(self, comment: Json) -> ast.GroupComment:
-        return self._comment_of(ast.GroupComment, comment)
+def _pattern(inside: list[Any], span: ast.Span | None) -> ast.Pattern:
+    """The texts of several lines are one element."""
+    elements: list[Any] = []
+    last = None
+    for element in inside:
+        kind = type(element)
+        if kind is last is ast.TextElement:
+            elements[-1].value += element.value
+        else:
+            elements.append(element)
+        last = kind
+    if span is not None:
+        _place_texts(elements, span)
+    return ast.Pattern(elements, span=span)
 
-    def _resource_comment(self, comment: Json) -> ast.ResourceComment:
-        return self._comment_of(ast.ResourceComment, comment)
 
-    def _comment_of(self, kind: type[Node], comment: Json) -> Node:
-        start, lines = self.at, comment["content"]
-        self._line_end()
-        for _ in lines[1:]:
-            self.at = self.source.index("\n", self.at) + 1
-            self._line_end()
-        return self._node(kind, start, content="\n".join(lines))
+def _place_texts(elements: list[Any], span: ast.Span) -> None:
+    """A text is all that is between placeables. The first one has what its line is indented more than others."""
+    last = len(elements) - 1
+    for index, element in enumerate(elements):
+        if type(element) is ast.TextElement:
+            if index > 0:
+                element.span.start = elements[index - 1].span.end
+            elif element.value.startswith(" "):
+                element.span.start = span.start
+            element.span.end = elements[index + 1].span.start if index < last else span.end
 
-    def _junk(self, junk: Json) -> ast.Junk:
-        start, content = self.source.index(junk["content"], self.at), junk["content"]
-        self.at = start + len(content)
-        return self._node(ast.Junk, start, content=content, annotations=[])
 
-    # Patterns.
+def _term_reference(inside: list[Any], span: ast.Span | None) -> ast.TermReference:
+    arguments = inside.pop() if type(inside[-1]) is ast.CallArguments else None
+    return ast.TermReference(*inside, arguments=arguments, span=span)
 
-    def _pattern(self, elements: list[Json]) -> ast.Pattern:
-        source = self.source
-        self._skip(_SPACES)
-        start = self.at
-        if source.startswith(("\n", "\r\n"), start):
-            # The pattern begins with the line, and its first text behind the indent.
-            self._skip(_BLANK_LINES)
-            start = self.at
-            self._skip(_SPACES)
-        made: list[Any] = []
-        index, count = 0, len(elements)
-        while index < count:
-            element = elements[index]
-            index += 1
-            if element["type"] == "Placeable":
-                made.append(self._placeable(element))
-                continue
-            value = element["value"]
-            while index < count and elements[index]["type"] == "TextElement":
-                value += elements[index]["value"]
-                index += 1
-            # The first text has what its line is indented more than others.
-            begin = start if not made and value.startswith(" ") else self.at
-            self._text_end(value, index == count)
-            made.append(self._node(ast.TextElement, begin, value=value))
-        if not made or not isinstance(made[-1], ast.TextElement):
-            self._line_end()
-        return self._node(ast.Pattern, start, elements=made)
 
-    def _text_end(self, value: str, is_last: bool) -> None:
-        """Goes to the end of a text: the next placeable, or the end of its last line."""
-        if not is_last:
-            self.at = self.source.index("{", self.at)
-            return
-        for _ in range(value.count("\n")):
-            self.at = self.source.index("\n", self.at) + 1
-        self._line_end()
+def _arguments(inside: list[Any], span: ast.Span | None) -> ast.CallArguments:
+    named = [argument for argument in inside if type(argument) is ast.NamedArgument]
+    return ast.CallArguments(inside[: len(inside) - len(named)], named, span=span)
 
-    def _placeable(self, placeable: Json) -> ast.Placeable:
-        start = self.at
-        self.at += 1
-        self._skip(_WHITE)
-        inner = placeable["expression"]
-        expression = self._inline[inner["type"]](inner)
-        self._skip(_WHITE)
-        self.at += 1
-        return self._node(ast.Placeable, start, expression=expression)
 
-    # Expressions.
+def _entry(kind: type[ast.Message] | type[ast.Term]) -> Other:
+    """What makes a message or a term of a comment, an identifier, a pattern and attributes. Some may be missing."""
 
-    def _identifier(self, identifier: Json) -> ast.Identifier:
-        start, name = self.at, identifier["name"]
-        self.at += len(name)
-        return self._node(ast.Identifier, start, name=name)
+    def make(inside: list[Any], span: ast.Span | None) -> ast.Message | ast.Term:
+        comment = inside.pop(0) if type(inside[0]) is ast.Comment else None
+        value = inside.pop(1) if len(inside) > 1 and type(inside[1]) is ast.Pattern else None
+        return kind(inside[0], value, inside[1:], comment, span=span)
 
-    def _string(self, literal: Json) -> ast.StringLiteral:
-        start, value = self.at, literal["value"]
-        self.at += len(value) + 2
-        return self._node(ast.StringLiteral, start, value=value)
+    return make
 
-    def _number(self, literal: Json) -> ast.NumberLiteral:
-        start, value = self.at, literal["value"]
-        self.at += len(value)
-        return self._node(ast.NumberLiteral, start, value=value)
 
-    def _variable(self, reference: Json) -> ast.VariableReference:
-        start = self.at
-        self.at += 1
-        id = self._identifier(reference["id"])
-        return self._node(ast.VariableReference, start, id=id)
+# What makes a node of its text, or of the nodes in it; and of its span.
+Leaf = Callable[[str, Union[ast.Span, None]], ast.SyntaxNode]
+Other = Callable[[list[Any], Union[ast.Span, None]], ast.SyntaxNode]
 
-    def _attribute_of(self, reference: Json) -> ast.Identifier | None:
-        """The attribute that a reference names."""
-        if reference["attribute"] is None:
-            return None
-        self._skip(_WHITE)
-        self.at += 1
-        return self._identifier(reference["attribute"])
+_LEAVES: dict[str, Leaf] = {
+    "Identifier": lambda text, span: ast.Identifier(text, span=span),
+    "TextElement": lambda text, span: ast.TextElement(text, span=span),
+    "StringLiteral": lambda text, span: ast.StringLiteral(text[1:-1], span=span),
+    "NumberLiteral": lambda text, span: ast.NumberLiteral(text, span=span),
+    "Comment": _comment(ast.Comment, 1),
+    "GroupComment": _comment(ast.GroupComment, 2),
+    "ResourceComment": _comment(ast.ResourceComment, 3),
+    "Junk": lambda text, span: ast.Junk(text, span=span),
+}
 
-    def _message_reference(self, reference: Json) -> ast.MessageReference:
-        start = self.at
-        id = self._identifier(reference["id"])
-        attribute = self._attribute_of(reference)
-        return self._node(ast.MessageReference, start, id=id, attribute=attribute)
-
-    def _term_reference(self, reference: Json) -> ast.TermReference:
-        start = self.at
-        self.at += 1
-        id = self._identifier(reference["id"])
-        attribute = self._attribute_of(reference)
-        arguments = None
-        if reference["arguments"] is not None:
-            arguments = self._arguments(reference["arguments"])
-        return self._node(ast.TermReference, start, id=id, attribute=attribute, arguments=arguments)
-
-    def _function_reference(self, reference: Json) -> ast.FunctionReference:
-        start = self.at
-        id = self._identifier(reference["id"])
-        arguments = self._arguments(reference["arguments"])
-        return self._node(ast.FunctionReference, start, id=id, arguments=arguments)
-
-    def _arguments(self, arguments: Json) -> ast.CallArguments:
-        self._skip(_WHITE)
-        start = self.at
-        self.at += 1
-        self._skip(_WHITE)
-        positional = []
-        for argument in arguments["positional"]:
-            positional.append(self._inline[argument["type"]](argument))
-            self._argument_end()
-        named = []
-        for argument in arguments["named"]:
-            named.append(self._named(argument))
-            self._argument_end()
-        self.at += 1
-        return self._node(ast.CallArguments, start, positional=positional, named=named)
-
-    def _argument_end(self) -> None:
-        """Goes behind the comma after an argument, if there is one."""
-        self._skip(_WHITE)
-        if self.source.startswith(",", self.at):
-            self.at += 1
-            self._skip(_WHITE)
-
-    def _named(self, argument: Json) -> ast.NamedArgument:
-        start = self.at
-        name = self._identifier(argument["name"])
-        self._skip(_WHITE)
-        self.at += 1
-        self._skip(_WHITE)
-        value = self._inline[argument["value"]["type"]](argument["value"])
-        return self._node(ast.NamedArgument, start, name=name, value=value)
-
-    def _select(self, select: Json) -> ast.SelectExpression:
-        start, selector = self.at, select["selector"]
-        chosen_by = self._inline[selector["type"]](selector)
-        self._skip(_WHITE)
-        self.at += 2
-        variants = []
-        for variant in select["variants"]:
-            self._skip(_WHITE)
-            variants.append(self._variant(variant))
-        self._skip(_WHITE)
-        if self.source.startswith("*", self.at):
-            # The mark of a default that isn't there.
-            self.at += 1
-            self._skip(_WHITE)
-        return self._node(ast.SelectExpression, start, selector=chosen_by, variants=variants)
-
-    def _variant(self, variant: Json) -> ast.Variant:
-        start, key = self.at, variant["key"]
-        self.at += 2 if variant["default"] else 1
-        self._skip(_WHITE)
-        made = self._identifier(key) if key["type"] == "Identifier" else self._number(key)
-        self._skip(_WHITE)
-        self.at += 1
-        value = self._pattern(variant["value"]["elements"])
-        return self._node(ast.Variant, start, key=made, value=value, default=variant["default"])
+_OTHERS: dict[str, Other] = {
+    "Placeable": lambda inside, span: ast.Placeable(inside[0], span=span),
+    "VariableReference": lambda inside, span: ast.VariableReference(inside[0], span=span),
+    "MessageReference": lambda inside, span: ast.MessageReference(*inside, span=span),
+    "TermReference": _term_reference,
+    "FunctionReference": lambda inside, span: ast.FunctionReference(*inside, span=span),
+    "CallArguments": _arguments,
+    "NamedArgument": lambda inside, span: ast.NamedArgument(*inside, span=span),
+    "Select": lambda inside, span: ast.SelectExpression(inside[0], inside[1:], span=span),
+    "Variant": lambda inside, span: ast.Variant(*inside, span=span),
+    "DefaultVariant": lambda inside, span: ast.Variant(*inside, default=True, span=span),
+    "Pattern": _pattern,
+    "Attribute": lambda inside, span: ast.Attribute(*inside, span=span),
+    "Message": _entry(ast.Message),
+    "Term": _entry(ast.Term),
+}

@@ -61,6 +61,12 @@ def _cloned(value: Any) -> Any:
 class BaseNode:
     """Any node. Two nodes are compared by `equals`; `==` compares which object they are."""
 
+    # The method of a visitor for nodes of this class.
+    visited_by = "visit_BaseNode"
+
+    def __init_subclass__(cls) -> None:
+        cls.visited_by = f"visit_{cls.__name__}"
+
     def finish(self) -> None:
         """Makes the attributes that are made when they are asked for: those of a resource that was parsed."""
 
@@ -97,8 +103,7 @@ def _fields_equal(first: Any, second: Any, ignored_fields: list[str] | None) -> 
 class Span(BaseNode):
     """A stretch of a source: the indexes of its first character and of the one after its last."""
 
-    def __init__(self, start: int, end: int, **kwargs: Any) -> None:
-        super().__init__(**kwargs)
+    def __init__(self, start: int, end: int) -> None:
         self.start = start
         self.end = end
 
@@ -106,8 +111,7 @@ class Span(BaseNode):
 class SyntaxNode(BaseNode):
     """A node that is written in a source. `span` is where, or `None` if that isn't known."""
 
-    def __init__(self, span: Span | None = None, **kwargs: Any) -> None:
-        super().__init__(**kwargs)
+    def __init__(self, span: Span | None = None) -> None:
         self.span = span
 
     def add_span(self, start: int, end: int) -> None:
@@ -119,8 +123,8 @@ class Resource(SyntaxNode):
 
     body: list[EntryType]
 
-    def __init__(self, body: list[EntryType] | None = None, **kwargs: Any) -> None:
-        super().__init__(**kwargs)
+    def __init__(self, body: list[EntryType] | None = None, *, span: Span | None = None) -> None:
+        self.span = span
         self.body = body or []
 
     @classmethod
@@ -157,9 +161,10 @@ class Message(Entry):
         value: Pattern | None = None,
         attributes: list[Attribute] | None = None,
         comment: Comment | None = None,
-        **kwargs: Any,
+        *,
+        span: Span | None = None,
     ) -> None:
-        super().__init__(**kwargs)
+        self.span = span
         self.id = id
         self.value = value
         self.attributes = attributes or []
@@ -175,9 +180,10 @@ class Term(Entry):
         value: Pattern,
         attributes: list[Attribute] | None = None,
         comment: Comment | None = None,
-        **kwargs: Any,
+        *,
+        span: Span | None = None,
     ) -> None:
-        super().__init__(**kwargs)
+        self.span = span
         self.id = id
         self.value = value
         self.attributes = attributes or []
@@ -187,8 +193,8 @@ class Term(Entry):
 class Pattern(SyntaxNode):
     """What is shown: texts and placeables."""
 
-    def __init__(self, elements: list[TextElement | Placeable], **kwargs: Any) -> None:
-        super().__init__(**kwargs)
+    def __init__(self, elements: list[TextElement | Placeable], *, span: Span | None = None) -> None:
+        self.span = span
         self.elements = elements
 
 
@@ -199,16 +205,16 @@ class PatternElement(SyntaxNode):
 class TextElement(PatternElement):
     """A text, without the indent of its lines. Lines end in a line feed."""
 
-    def __init__(self, value: str, **kwargs: Any) -> None:
-        super().__init__(**kwargs)
+    def __init__(self, value: str, *, span: Span | None = None) -> None:
+        self.span = span
         self.value = value
 
 
 class Placeable(PatternElement):
     """`{ expression }`."""
 
-    def __init__(self, expression: InlineExpression | Placeable | SelectExpression, **kwargs: Any) -> None:
-        super().__init__(**kwargs)
+    def __init__(self, expression: InlineExpression | Placeable | SelectExpression, *, span: Span | None = None) -> None:
+        self.span = span
         self.expression = expression
 
 
@@ -219,8 +225,8 @@ class Expression(SyntaxNode):
 class Literal(Expression):
     """A text in quotes, or a number: `value` is as it is written."""
 
-    def __init__(self, value: str, **kwargs: Any) -> None:
-        super().__init__(**kwargs)
+    def __init__(self, value: str, *, span: Span | None = None) -> None:
+        self.span = span
         self.value = value
 
     def parse(self) -> dict[str, Any]:
@@ -256,8 +262,8 @@ class NumberLiteral(Literal):
 class MessageReference(Expression):
     """`id` or `id.attribute`."""
 
-    def __init__(self, id: Identifier, attribute: Identifier | None = None, **kwargs: Any) -> None:
-        super().__init__(**kwargs)
+    def __init__(self, id: Identifier, attribute: Identifier | None = None, *, span: Span | None = None) -> None:
+        self.span = span
         self.id = id
         self.attribute = attribute
 
@@ -270,9 +276,10 @@ class TermReference(Expression):
         id: Identifier,
         attribute: Identifier | None = None,
         arguments: CallArguments | None = None,
-        **kwargs: Any,
+        *,
+        span: Span | None = None,
     ) -> None:
-        super().__init__(**kwargs)
+        self.span = span
         self.id = id
         self.attribute = attribute
         self.arguments = arguments
@@ -281,16 +288,16 @@ class TermReference(Expression):
 class VariableReference(Expression):
     """`$id`."""
 
-    def __init__(self, id: Identifier, **kwargs: Any) -> None:
-        super().__init__(**kwargs)
+    def __init__(self, id: Identifier, *, span: Span | None = None) -> None:
+        self.span = span
         self.id = id
 
 
 class FunctionReference(Expression):
     """`ID(..)`."""
 
-    def __init__(self, id: Identifier, arguments: CallArguments, **kwargs: Any) -> None:
-        super().__init__(**kwargs)
+    def __init__(self, id: Identifier, arguments: CallArguments, *, span: Span | None = None) -> None:
+        self.span = span
         self.id = id
         self.arguments = arguments
 
@@ -298,8 +305,8 @@ class FunctionReference(Expression):
 class SelectExpression(Expression):
     """`selector -> variants`."""
 
-    def __init__(self, selector: InlineExpression, variants: list[Variant], **kwargs: Any) -> None:
-        super().__init__(**kwargs)
+    def __init__(self, selector: InlineExpression, variants: list[Variant], *, span: Span | None = None) -> None:
+        self.span = span
         self.selector = selector
         self.variants = variants
 
@@ -311,9 +318,10 @@ class CallArguments(SyntaxNode):
         self,
         positional: list[InlineExpression | Placeable] | None = None,
         named: list[NamedArgument] | None = None,
-        **kwargs: Any,
+        *,
+        span: Span | None = None,
     ) -> None:
-        super().__init__(**kwargs)
+        self.span = span
         self.positional = positional or []
         self.named = named or []
 
@@ -321,8 +329,8 @@ class CallArguments(SyntaxNode):
 class Attribute(SyntaxNode):
     """`.id = value`."""
 
-    def __init__(self, id: Identifier, value: Pattern, **kwargs: Any) -> None:
-        super().__init__(**kwargs)
+    def __init__(self, id: Identifier, value: Pattern, *, span: Span | None = None) -> None:
+        self.span = span
         self.id = id
         self.value = value
 
@@ -330,8 +338,8 @@ class Attribute(SyntaxNode):
 class Variant(SyntaxNode):
     """`[key] value`, or `*[key] value` if it is the default."""
 
-    def __init__(self, key: Identifier | NumberLiteral, value: Pattern, default: bool = False, **kwargs: Any) -> None:
-        super().__init__(**kwargs)
+    def __init__(self, key: Identifier | NumberLiteral, value: Pattern, default: bool = False, *, span: Span | None = None) -> None:
+        self.span = span
         self.key = key
         self.value = value
         self.default = default
@@ -340,8 +348,8 @@ class Variant(SyntaxNode):
 class NamedArgument(SyntaxNode):
     """`name: value`."""
 
-    def __init__(self, name: Identifier, value: NumberLiteral | StringLiteral, **kwargs: Any) -> None:
-        super().__init__(**kwargs)
+    def __init__(self, name: Identifier, value: NumberLiteral | StringLiteral, *, span: Span | None = None) -> None:
+        self.span = span
         self.name = name
         self.value = value
 
@@ -349,45 +357,36 @@ class NamedArgument(SyntaxNode):
 class Identifier(SyntaxNode):
     """A name, without the sign before it."""
 
-    def __init__(self, name: str, **kwargs: Any) -> None:
-        super().__init__(**kwargs)
+    def __init__(self, name: str, *, span: Span | None = None) -> None:
+        self.span = span
         self.name = name
 
 
 class BaseComment(Entry):
     """A comment: its lines, without their signs."""
 
-    def __init__(self, content: str | None = None, **kwargs: Any) -> None:
-        super().__init__(**kwargs)
+    def __init__(self, content: str | None = None, *, span: Span | None = None) -> None:
+        self.span = span
         self.content = content
 
 
 class Comment(BaseComment):
     """`# content`: of a message or a term, or standing alone."""
 
-    def __init__(self, content: str | None = None, **kwargs: Any) -> None:
-        super().__init__(content, **kwargs)
-
 
 class GroupComment(BaseComment):
     """`## content`."""
-
-    def __init__(self, content: str | None = None, **kwargs: Any) -> None:
-        super().__init__(content, **kwargs)
 
 
 class ResourceComment(BaseComment):
     """`### content`."""
 
-    def __init__(self, content: str | None = None, **kwargs: Any) -> None:
-        super().__init__(content, **kwargs)
-
 
 class Junk(SyntaxNode):
     """A stretch that can't be read, and why."""
 
-    def __init__(self, content: str | None = None, annotations: list[Annotation] | None = None, **kwargs: Any) -> None:
-        super().__init__(**kwargs)
+    def __init__(self, content: str | None = None, annotations: list[Annotation] | None = None, *, span: Span | None = None) -> None:
+        self.span = span
         self.content = content
         self.annotations = annotations or []
 
@@ -399,9 +398,9 @@ class Annotation(SyntaxNode):
     """Why a stretch can't be read: the code of `fluent.syntax`, such as "E0003", and a message in words."""
 
     def __init__(
-        self, code: str, arguments: list[Any] | None = None, message: str | None = None, **kwargs: Any
+        self, code: str, arguments: list[Any] | None = None, message: str | None = None, *, span: Span | None = None
     ) -> None:
-        super().__init__(**kwargs)
+        self.span = span
         self.code = code
         self.arguments = arguments or []
         self.message = message

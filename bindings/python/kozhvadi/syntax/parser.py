@@ -3,19 +3,17 @@
 from __future__ import annotations
 
 import gc
-import json
 from collections.abc import Iterator
 from contextlib import contextmanager
 from functools import partial
-from typing import Any, cast
+from typing import cast
 
 from .. import _library as c
 from .._errors import SourceError
 from .._linting import refuse
 from .._reports import source_errors
 from .._values import encoded
-from . import ast
-from ._placed import Reader
+from . import _placed, ast
 from .errors import CODES
 
 
@@ -61,7 +59,7 @@ def _checked(status: int) -> None:
 def _entries(source: str, with_spans: bool) -> list[ast.EntryType]:
     """The entries of a source."""
     with _without_collector():
-        entries = Reader(source, with_spans).entries(_tree(source.encode())["body"])
+        entries = _placed.entries(source, _node_lines(source.encode()), with_spans)
     junk = [entry for entry in entries if isinstance(entry, ast.Junk)]
     if junk:
         _annotate(source, junk, with_spans)
@@ -80,12 +78,12 @@ def _without_collector() -> Iterator[None]:
             gc.enable()
 
 
-def _tree(source: bytes) -> Any:
-    """The tree of a source, as docs/reference/json.md has it."""
+def _node_lines(source: bytes) -> str:
+    """The lines of the nodes of a source, as docs/reference/nodes.md has them."""
     made = c.FluentText()
     try:
-        _checked(c.library.fluent_write_json(source, len(source), made))
-        return json.loads(c.string_of(made))
+        _checked(c.library.fluent_nodes(source, len(source), made))
+        return c.string_of(made)
     finally:
         c.library.fluent_free_text(made)
 

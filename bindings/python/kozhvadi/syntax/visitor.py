@@ -29,13 +29,13 @@ class Visitor:
             for each in node:
                 self.visit(each)
         elif isinstance(node, BaseNode):
-            method = getattr(self, f"visit_{type(node).__name__}", self.generic_visit)
-            method(node)
+            getattr(self, node.visited_by, self.generic_visit)(node)
 
     def generic_visit(self, node: BaseNode) -> Any:
         """Visits all that is below a node."""
         for value in fields_of(node).values():
-            self.visit(value)
+            if isinstance(value, (BaseNode, list)):
+                self.visit(value)
 
 
 class Transformer(Visitor):
@@ -55,8 +55,7 @@ class Transformer(Visitor):
         """What takes the place of a node."""
         if not isinstance(node, BaseNode):
             return node
-        method = getattr(self, f"visit_{type(node).__name__}", self.generic_visit)
-        return method(node)
+        return getattr(self, node.visited_by, self.generic_visit)(node)
 
     def generic_visit(self, node: BaseNode) -> Any:
         """Changes all that is below a node, which stays."""

@@ -1,4 +1,4 @@
-use Rattle.std.proofs.Common.{◌≡◌, ◌∙◌, ◌++◌, ap, sym, replicate, string_bytes, append_assoc}
+use Rattle.std.proofs.Common.{◌∙◌, ◌++◌, ap, sym, replicate, string_bytes, append_assoc}
 use Rattle.fluent_dates.specs.Numbers.{native, natives}
 use Rattle.fluent_dates.proofs.WritingSteps.{natives_next}
 use Rattle.fluent_dates.proofs.numbers.push_zeros.Goals as goal

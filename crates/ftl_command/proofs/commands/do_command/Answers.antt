@@ -29,6 +29,9 @@ returns-in-Run-clause-devices g c =
       stops = c.run_files.ensures.stops;
     })
 
+pub returns-in-Run-clause-files : goal.returns-in-Run-clause-files
+returns-in-Run-clause-files g c = rw c.in-Run.is c.run_files.ensures.kept
+
 pub returns-in-Format-clause-ended : goal.returns-in-Format-clause-ended
 returns-in-Format-clause-ended g c =
     rw c.in-Format.is (record {
@@ -43,6 +46,9 @@ pub returns-in-Format-clause-devices : goal.returns-in-Format-clause-devices
 returns-in-Format-clause-devices g c =
     rw c.in-Format.is (text_devices g.F.Folder g.I.Source g.O.Sink c.args.reader.now c.args.writer.now _ c.args.folder.now c.write_formatted.new.folder c.write_formatted.new.writer
     c.write_formatted.result c.write_formatted.ensures.works c.write_formatted.ensures.fault c.write_formatted.ensures.stops)
+
+pub returns-in-Format-clause-files : goal.returns-in-Format-clause-files
+returns-in-Format-clause-files g c = rw c.in-Format.is c.write_formatted.ensures.kept
 
 pub returns-in-Check-clause-ended : goal.returns-in-Check-clause-ended
 returns-in-Check-clause-ended g c =
@@ -59,6 +65,9 @@ pub returns-in-Check-clause-devices : goal.returns-in-Check-clause-devices
 returns-in-Check-clause-devices g c =
     rw c.in-Check.is (text_devices g.F.Folder g.I.Source g.O.Sink c.args.reader.now c.args.writer.now _ c.args.folder.now c.check_files.new.folder c.check_files.new.writer
     c.check_files.result c.check_files.ensures.works (rw c.deref-in-Check.ensures.value at c.check_files.ensures.fault) c.check_files.ensures.stops)
+
+pub returns-in-Check-clause-files : goal.returns-in-Check-clause-files
+returns-in-Check-clause-files g c = rw c.in-Check.is c.check_files.ensures.kept
 
 pub returns-in-Lint-clause-ended : goal.returns-in-Lint-clause-ended
 returns-in-Lint-clause-ended g c =
@@ -110,6 +119,9 @@ pub returns-in-Tidy-clause-devices : goal.returns-in-Tidy-clause-devices
 returns-in-Tidy-clause-devices g c =
     rw c.in-Tidy.is (text_devices g.F.Folder g.I.Source g.O.Sink c.args.reader.now c.args.writer.now _ c.args.folder.now c.write_tidied.new.folder c.write_tidied.new.writer
     c.write_tidied.result c.write_tidied.ensures.works c.write_tidied.ensures.fault c.write_tidied.ensures.stops)
+
+pub returns-in-Tidy-clause-files : goal.returns-in-Tidy-clause-files
+returns-in-Tidy-clause-files g c = rw c.in-Tidy.is c.write_tidied.ensures.kept
 
 pub returns-in-TidyFiles-clause-ended : goal.returns-in-TidyFiles-clause-ended
 returns-in-TidyFiles-clause-ended g c =

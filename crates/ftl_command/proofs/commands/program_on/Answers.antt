@@ -4,7 +4,7 @@ use Rattle.ftl_arguments.specs.Meaning.{command_of, texts}
 use Rattle.fluent_serve.specs.Exchange.{devices}
 use Rattle.ftl_command.proofs.EndLemmas.{not_alone_by, refused_by, untouched, without_input}
 use Rattle.ftl_command.proofs.EndStatuses.{not_alone_end, refused_end}
-use Rattle.ftl_command.proofs.FaultLemmas.{status_of-among}
+use Rattle.ftl_command.proofs.FaultLemmas.{end_status-among, never_zero, status_of-among}
 use Rattle.ftl_command.proofs.commands.program_on.Goals as goal
 
 pub returns-in-Ok-clause-ended : goal.returns-in-Ok-clause-ended
@@ -65,41 +65,30 @@ returns-in-Err-clause-ended g c = let fault = c.in-Err.ensures.devices.fault in 
   output_failed = λ is. c.in-Err.ensures.devices.stops.failed cc;
 }
 
-pub returns-in-Err-clause-statuses : goal.returns-in-Err-clause-statuses
-returns-in-Err-clause-statuses g c = rw c.tell_on.ensures.status (status_of-among _)
+pub returns-in-Ok-clause-status : goal.returns-in-Ok-clause-status
+returns-in-Ok-clause-status g c =
+    let contents = g.F.Folder.contents c.args.folder.now in
+    let moved = devices g.I.Source.remaining c.args.reader.now c.run_command.new.reader g.O.Sink.contents c.args.writer.now c.run_command.new.writer in
+    let words = texts c.args.words.now in
+    let is = c.tell_errors_on.ensures.status in
+    record {
+      among = rw is (end_status-among c.in-Ok.end);
+      refused = λ two. refused_end contents moved (command_of c.args.screens.colours words) c.in-Ok.end c.in-Ok.ensures.ended.done (sym is ∙ two);
+      not_help = λ two. not_alone_end contents moved c.args.screens.colours words DisplayHelp c.in-Ok.end c.in-Ok.ensures.ended.done (sym is ∙ two);
+      not_version = λ two. not_alone_end contents moved c.args.screens.colours words DisplayVersion c.in-Ok.end c.in-Ok.ensures.ended.done (sym is ∙ two);
+      served = λ zero. c.in-Ok.ensures.help.text;
+    }
 
-pub returns-in-Err-clause-refused : goal.returns-in-Err-clause-refused
-returns-in-Err-clause-refused g c = λ two.
-    refused_by (command_of c.args.screens.colours (texts c.args.words.now)) c.in-Err.fault c.in-Err.ensures.devices.fault.refused c.in-Err.ensures.devices.fault.unknown
-    (sym c.tell_on.ensures.status ∙ two)
-
-pub returns-in-Err-clause-not_help : goal.returns-in-Err-clause-not_help
-returns-in-Err-clause-not_help g c = λ two.
-    not_alone_by c.args.screens.colours (texts c.args.words.now) DisplayHelp c.in-Err.fault c.in-Err.ensures.help.not_help c.in-Err.ensures.devices.fault.unknown
-    (sym c.tell_on.ensures.status ∙ two)
-
-pub returns-in-Err-clause-not_version : goal.returns-in-Err-clause-not_version
-returns-in-Err-clause-not_version g c = λ two.
-    not_alone_by c.args.screens.colours (texts c.args.words.now) DisplayVersion c.in-Err.fault c.in-Err.ensures.help.not_version c.in-Err.ensures.devices.fault.unknown
-    (sym c.tell_on.ensures.status ∙ two)
-
-pub returns-in-Ok-clause-served : goal.returns-in-Ok-clause-served
-returns-in-Ok-clause-served g c = λ zero. c.in-Ok.ensures.help.text
-
-pub returns-in-Ok-clause-refused : goal.returns-in-Ok-clause-refused
-returns-in-Ok-clause-refused g c = λ two.
-    refused_end (g.F.Folder.contents c.args.folder.now)
-    (devices g.I.Source.remaining c.args.reader.now c.run_command.new.reader g.O.Sink.contents c.args.writer.now c.run_command.new.writer)
-    (command_of c.args.screens.colours (texts c.args.words.now)) c.in-Ok.end c.in-Ok.ensures.ended.done (sym c.tell_errors_on.ensures.status ∙ two)
-
-pub returns-in-Ok-clause-not_help : goal.returns-in-Ok-clause-not_help
-returns-in-Ok-clause-not_help g c = λ two.
-    not_alone_end (g.F.Folder.contents c.args.folder.now)
-    (devices g.I.Source.remaining c.args.reader.now c.run_command.new.reader g.O.Sink.contents c.args.writer.now c.run_command.new.writer)
-    c.args.screens.colours (texts c.args.words.now) DisplayHelp c.in-Ok.end c.in-Ok.ensures.ended.done (sym c.tell_errors_on.ensures.status ∙ two)
-
-pub returns-in-Ok-clause-not_version : goal.returns-in-Ok-clause-not_version
-returns-in-Ok-clause-not_version g c = λ two.
-    not_alone_end (g.F.Folder.contents c.args.folder.now)
-    (devices g.I.Source.remaining c.args.reader.now c.run_command.new.reader g.O.Sink.contents c.args.writer.now c.run_command.new.writer)
-    c.args.screens.colours (texts c.args.words.now) DisplayVersion c.in-Ok.end c.in-Ok.ensures.ended.done (sym c.tell_errors_on.ensures.status ∙ two)
+pub returns-in-Err-clause-status : goal.returns-in-Err-clause-status
+returns-in-Err-clause-status g c =
+    let words = texts c.args.words.now in
+    let fault = c.in-Err.ensures.devices.fault in
+    let help = c.in-Err.ensures.help in
+    let is = c.tell_on.ensures.status in
+    record {
+      among = rw is (status_of-among c.in-Err.fault);
+      refused = λ two. refused_by (command_of c.args.screens.colours words) c.in-Err.fault fault.refused fault.unknown (sym is ∙ two);
+      not_help = λ two. not_alone_by c.args.screens.colours words DisplayHelp c.in-Err.fault help.not_help fault.unknown (sym is ∙ two);
+      not_version = λ two. not_alone_by c.args.screens.colours words DisplayVersion c.in-Err.fault help.not_version fault.unknown (sym is ∙ two);
+      served = λ zero. absurd (never_zero c.in-Err.fault (sym is ∙ zero));
+    }

@@ -1,4 +1,4 @@
-use Rattle.std.proofs.Common.{inl, inr, ◌∙◌}
+use Rattle.std.proofs.Common.{inl, inr, refl, ◌∙◌}
 use Rattle.ftl_arguments.specs.Meaning.{command_of, texts}
 use Rattle.fluent_serve.proofs.Outcomes.{on_ok_always}
 use Rattle.ftl_command.proofs.EndLemmas.{asked_command, asked_help, asked_version, command_helps, is_bad, no_help_asked, text_helps}
@@ -132,15 +132,15 @@ returns-in-Ok-Command-clause-files g c =
 pub returns-in-Ok-Help-clause-files : goal.returns-in-Ok-Help-clause-files
 returns-in-Ok-Help-clause-files g c =
     let asked = asked_help c.args.colours (texts c.args.words.now) c.in-Ok-Help.field-0-is c.in-Ok-Help.ensures.asked in
-    rw asked.0 tt
+    rw asked.0 refl
 
 pub returns-in-Ok-Version-clause-files : goal.returns-in-Ok-Version-clause-files
 returns-in-Ok-Version-clause-files g c =
     let asked = asked_version c.args.colours (texts c.args.words.now) c.in-Ok-Version.field-0-is c.in-Ok-Version.ensures.asked in
-    rw asked.0 tt
+    rw asked.0 refl
 
 pub returns-in-Err-Bad-clause-files : goal.returns-in-Err-Bad-clause-files
-returns-in-Err-Bad-clause-files g c = rw (c.in-Err-Bad.ensures.nothing (is_bad c.in-Err-Bad.field-0-is)) tt
+returns-in-Err-Bad-clause-files g c = rw (c.in-Err-Bad.ensures.nothing (is_bad c.in-Err-Bad.field-0-is)) refl
 
 pub returns-in-Err-Memory-clause-files : goal.returns-in-Err-Memory-clause-files
 returns-in-Err-Memory-clause-files g c = none_tidied (command_of c.args.colours (texts c.args.words.now)) _ _ _

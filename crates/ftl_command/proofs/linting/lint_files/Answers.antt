@@ -24,6 +24,7 @@ returns-in_err-write_to_stream-clause-ended g c =
       output = λ is.
           lint_cut (OnLintReport lint before after) (on_lint_report lint before after) (report_view linted.report) (unread_view linted) _ _ _ c.in_ok-linted.ensures.linted c.as_str.ensures.value
           c.in_err-write_to_stream.ensures.front;
+      kept = c.in_ok-linted.ensures.kept;
     }
 
 pub returns-clause-ended : goal.returns-clause-ended
@@ -37,4 +38,5 @@ returns-clause-ended g c =
           linted_so (OnLintReport lint before after) (on_lint_report lint before after) (report_view linted.report) (unread_view linted) _ _ _ c.in_ok-linted.ensures.linted c.as_str.ensures.value _
           c.in_ok-write_to_stream.ensures.written c.end_of.ensures;
       output = λ is. absurd cc;
+      kept = c.in_ok-linted.ensures.kept;
     }

@@ -36,6 +36,7 @@ returns-in_err-write_to_stream-clause-ended g c =
       output = λ is.
           lint_cut (OnInputReport lint before after left left_after) (on_input_report lint before after left left_after) (report_view linted.report) (unread_view linted) _ _ _
           c.in_ok-linted.ensures.linted c.as_str.ensures.value c.in_err-write_to_stream.ensures.front;
+      kept = c.in_ok-linted.ensures.kept;
     }
 
 pub returns-clause-ended : goal.returns-clause-ended
@@ -53,4 +54,5 @@ returns-clause-ended g c =
       memory = λ is. absurd cc;
       input = λ is. absurd cc;
       output = λ is. absurd cc;
+      kept = c.in_ok-linted.ensures.kept;
     }

@@ -14,8 +14,8 @@ returns-clause-linted g c =
       references = read_view c.in_ok-references.references;
       files = read_view c.in_ok-files.files;
       middle = state_of g.F.Folder c.read_sources.new.folder;
-      of_reference = rw c.deref.ensures.value at c.in_ok-references.ensures;
-      of_catalog = rw c.deref-2.ensures.value at c.in_ok-files.ensures;
+      of_reference = rw c.deref.ensures.value at c.in_ok-references.ensures.read;
+      of_catalog = rw c.deref-2.ensures.value at c.in_ok-files.ensures.read;
       outcome = c.in_ok-report_sources.ensures;
     })
 

@@ -1,0 +1,4 @@
+pub mod Languages
+pub mod ReadOn
+mod Rows
+pub mod Taken
