@@ -14,7 +14,7 @@ how, under `# Errors`; no clause is longer than 200 characters, and at most 33 a
 the version names the same one, and each that lists the codes of findings lists the same ones; each place that names the
 version of CLDR names that of tools/cldr.txt; crates.txt is read alike in Python and in shell; the library for C and the
 packages for Rust and Python have the numbers, structs and calls of its header; the library and the package for Python
-know the same of the functions that come with the library; the counts of crates and functions in the pages on proofs are
+know the same of the functions that come with the library; each file that names its interpreter can be run; the counts of crates and functions in the pages on proofs are
 those of the sources; the figures that a file of results has are those of the pages; and each law, function and clause
 that a row of `proved.md` names is in the row's crates.
 
@@ -532,6 +532,13 @@ def other_functions():
     yield from function_table.differences(ROOT)
 
 
+def locked_scripts():
+    """The files that name their interpreter and can't be run."""
+    for path in sorted(ROOT.glob('*/**/*.[ps][yh]')):
+        if 'out' not in path.parts and not os.access(path, os.X_OK) and path.read_bytes()[:3] == b'#!/':
+            yield f'{path.relative_to(ROOT)} names its interpreter, but its mode lets nobody run it'
+
+
 def wrong_counts():
     """Counts in the pages that the sources don't have."""
     named = uses(ROOT)
@@ -598,7 +605,7 @@ def checks():
         yield from (wrong_quotes, types_without_examples, wrong_links, wide_prose, long_readme, wrong_words,
                     wrong_comments, wide_comments,
                     silent_calls, long_clauses, other_versions, other_codes, other_cldr, other_readers, other_interfaces,
-                    other_functions, wrong_counts, wrong_figures, wrong_rows)
+                    other_functions, locked_scripts, wrong_counts, wrong_figures, wrong_rows)
     if ARGUMENTS.sources:
         return
     if PROGRAM.exists():
