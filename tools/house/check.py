@@ -112,8 +112,8 @@ NAMING = ['crates/*/src/**/*.rt', 'crates/*/specs/**/*.antt', 'crates/*/*.h', 'c
 EXAMPLES = {
     '': [*(f'crates/{crate}/src/**/*.rt' for crate in ('example*', 'rows_*', 'ftl_*', 'fluent_c')),
          'tests/more_rows/src/**/*.rt.txt'],
-    'rust': ['crates/example*/src/**/*.rt', 'bindings/rust/README.md'],
-    'c': ['*s/c/*.c', 'bindings/c/README.md'],
+    'rust': ['crates/example*/src/**/*.rt', 'bindings/rust/README.md', 'docs/rust/*.md'],
+    'c': ['*s/c/*.c', 'docs/c-and-cpp/first-program-in-c.md'],
     'python': ['examples/python/*.py', 'bindings/python/README.md', 'docs/python/*.md'],
 }
 # What parts a program's `main.rt` from its module in the crate `examples`: a line of root files, and that its `main` is called.
