@@ -35,7 +35,7 @@ from pathlib import Path
 sys.path.insert(0, str(Path(__file__).resolve().parents[1]))
 
 import reflow
-from lib import c_interface, cldr, function_table
+from lib import c_interface, cldr, function_table, sessions
 from lib.crates import below, uses
 
 
@@ -361,38 +361,6 @@ def other_codes():
             yield f'{name}: the code `{code}` is {"not " if code in codes[first] else ""}listed, unlike in {first}'
 
 
-def calls_of(block):
-    """The calls of a shell block, as (call, what it prints)."""
-    calls = []
-    for line in block:
-        if line.startswith('$ '):
-            calls.append((line[2:], []))
-        elif calls:
-            calls[-1][1].append(line)
-    return [(call, '\n'.join(lines).rstrip('\n')) for call, lines in calls]
-
-
-def printed_by(call, status, folder):
-    """What a call prints after one that ended with this status, and the status that it ends with itself."""
-    ended = subprocess.run(['bash', '-c', f'(exit {status}); {call}'], cwd=folder, stdin=subprocess.DEVNULL,
-                           stdout=subprocess.PIPE, stderr=subprocess.STDOUT)
-    return ended.stdout.decode(errors='replace').rstrip('\n'), ended.returncode
-
-
-def wrong_calls(page, folder):
-    """Makes the calls of a page in this folder. `cat FILE` of a file that isn't there makes it."""
-    status = 0
-    for number, block in indented_blocks(page.read_text().split('\n')):
-        for call, shown in calls_of(block):
-            made = re.fullmatch(r'cat (\S+)', call)
-            if made and not (folder / made.group(1)).exists():
-                (folder / made.group(1)).write_text(shown + '\n')
-                continue
-            printed, status = printed_by(call, status, folder)
-            if printed != shown:
-                yield f'{place_of(page, number)}: `{call}` prints\n{printed}'
-
-
 def wrong_outputs():
     script, program = (shlex.quote(str(path)) for path in (ROOT / 'ftl', PROGRAM))
     # So that no call shows how the unproved program is built.
@@ -404,7 +372,9 @@ def wrong_outputs():
             (folder / 'ftl').chmod(0o755)
             shutil.copytree(ROOT / 'examples', folder / 'examples')
             (folder / 'tools').symlink_to(ROOT / 'tools')
-            yield from wrong_calls(page, folder)
+            blocks = indented_blocks(page.read_text().split('\n'))
+            for number, call, printed in sessions.wrong_calls(blocks, folder):
+                yield f'{place_of(page, number)}: `{call}` prints\n{printed}'
 
 
 def signature_of(lines, start):
