@@ -78,7 +78,7 @@ damage_is_noticed() {
 # Does what a page of the release says, in an empty folder at that home.
 typed() {
     local rustup=${RUSTUP_HOME:-$HOME/.rustup} cargo=${CARGO_HOME:-$HOME/.cargo}
-    mkdir "typed ${1##*/}" && cd "typed ${1##*/}" &&
+    mkdir -p "typed/$1" && cd "typed/$1" &&
         env -u FLUENT_C_LIB -u RATTLE_KIT_C HOME="$room/home" RUSTUP_HOME="$rustup" CARGO_HOME="$cargo" PATH="$room/home/.local/bin:$PATH" \
             python3 "$root/tools/release/typed.py" "$room/home/.local/share/doc/kozhvadi/docs/$1"
 }
@@ -99,7 +99,7 @@ PYTHON
 # The C program of the README, over pkg-config; and the first one of the page, as it says and by the static library.
 c_program() {
     follows 2 | diff "$root/bindings/c/functions.expected" - && (typed c-and-cpp/first-program-in-c.md) || return
-    cd 'typed first-program-in-c.md' && export PKG_CONFIG_PATH=$room/home/.local/lib/pkgconfig
+    cd typed/c-and-cpp/first-program-in-c.md && export PKG_CONFIG_PATH=$room/home/.local/lib/pkgconfig
     cc -Wall -Wextra -o static first.c $(pkg-config --cflags fluent_c) "$room/home/.local/lib/libfluent_c.a" &&
         [ "$(./static)" = "$(./first)" ]
 }
@@ -108,7 +108,7 @@ c_program() {
 # example.
 cpp_program() {
     local doc=home/.local/share/doc/kozhvadi target
-    (typed c-and-cpp/cpp.md) && mkdir cpp && cp 'typed cpp.md/inbox.cpp' cpp/first.cpp || return
+    (typed c-and-cpp/cpp.md) && mkdir cpp && cp typed/c-and-cpp/cpp.md/inbox.cpp cpp/first.cpp || return
     cat >cpp/CMakeLists.txt <<'CMAKE'
 cmake_minimum_required(VERSION 3.13)
 project(stranger CXX)

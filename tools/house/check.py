@@ -9,7 +9,7 @@ type that programs use has a block. Each link leads to a file and a heading that
 `crates` that a page names; each page that a comment names is there; no line of prose in a page is wider than 120
 columns; no page has words that docs/style.md leaves out, and no comment of the code, its definitions and its proofs has
 "behind" for "after"; no comment of code is wider than 100 columns; the README has at most 110 lines, 25 links and 15
-words a sentence; each call in a shell block of a page prints what follows it there; each public call that can fail says
+words a sentence, and no cell of the pages on what is proved more than 40; each call in a shell block of a page prints what follows it there; each public call that can fail says
 how, under `# Errors`; no clause is longer than 200 characters, and at most 33 are longer than 120; each file that names
 the version names the same one, and each that lists the codes of findings lists the same ones; each place that names the
 version of CLDR names that of tools/cldr.txt; crates.txt is read alike in Python and in shell; the library for C and the
@@ -67,6 +67,8 @@ CODES = {
 WIDEST = 120
 # How long the README is at most: lines, links, and words a sentence.
 README_LINES, README_LINKS, README_WORDS = 110, 25, 15
+# How many words a cell of the pages on what is proved has at most.
+CELL_WORDS = 40
 PROGRAM = (ARGUMENTS.program or ROOT / 'crates/ftl/out/ftl').resolve()
 # What `./ftl` is in a page.
 SCRIPT = """#!/bin/sh
@@ -297,6 +299,16 @@ def long_readme():
                               ('words a sentence', sum(counts) / len(counts), README_WORDS)]:
         if count > most:
             yield f'README.md: {count:.4g} {what}, and at most {most} are read'
+
+
+def long_cells():
+    """The pages on what is proved are read row by row."""
+    for page in (ROOT / 'docs/inside' / name for name in ('proved.md', 'proofs.md')):
+        for number, line in prose_of(page):
+            for cell in line.split('|') if line.startswith('|') else ():
+                count = len(re.sub(r'\[([^\]]*)\]\([^)]*\)', r'\1', cell).split())
+                if count > CELL_WORDS:
+                    yield f'{place_of(page, number)}: a cell of {count} words, and at most {CELL_WORDS} are read'
 
 
 def wrong_words():
@@ -572,7 +584,7 @@ def wrong_rows():
 def checks():
     """The checks that are asked for."""
     if not ARGUMENTS.calls:
-        yield from (wrong_quotes, types_without_examples, wrong_links, wide_prose, long_readme, wrong_words,
+        yield from (wrong_quotes, types_without_examples, wrong_links, wide_prose, long_readme, long_cells, wrong_words,
                     wrong_comments, wide_comments,
                     silent_calls, long_clauses, other_versions, other_codes, other_cldr, other_readers, other_interfaces,
                     other_functions, locked_scripts, wrong_counts, wrong_figures, wrong_rows)

@@ -35,7 +35,7 @@ BEGINNINGS = {
 }
 # Pages and sections for someone with the repository.
 OF_THE_REPOSITORY = ('install.md', 'style.md')
-LEFT_OUT = re.compile(r'^## (?:Build it|Tests)\n.*?(?=^## |\Z)', re.M | re.S)
+LEFT_OUT = re.compile(r'^## (?:Build it|Tests|The script `ftl`)\n.*?(?=^## |\Z)', re.M | re.S)
 # The script of the repository, where a release has the program.
 SCRIPT = re.compile(r'(?<![\w/.])\./ftl\b(?! --(?:unproved|no-build))')
 LINK = re.compile(r'!?\[([^\]]*)\]\(([^)\s#]+)(#[^)\s]*)?\)')
