@@ -3,10 +3,10 @@
 
     bench/plot.py [--check]
 
-A result has the keys `what`, `least` and `most`, the ratios between which several runs lay: Rust's time by ours. If peak
-memory was measured, `megabytes` has ours and Rust's. `bar` is its name in the chart, which has only results with one, and
-`group` the part of the chart; `time` is ours in microseconds, of which the chart also makes the other crate's. `kind` is the
-name under which pages speak of it.
+A result has the keys `what`, `call`, which prints it, and `least` and `most`, the ratios between which several runs lay:
+Rust's time by ours. If peak memory was measured, `megabytes` has ours and Rust's. `bar` is its name in the chart, which has
+only results with one, and `group` the part of the chart; `time` is ours in microseconds, of which the chart also makes the
+other crate's. `kind` is the name under which pages speak of it.
 
 Writes the chart docs/images/speed.svg and the table of docs/inside/speed.md. `--check` writes nothing, and ends with 1 if
 either isn't that of the results, or a page says another range of a kind.
@@ -29,7 +29,7 @@ SAID = {
     'formatting in Rattle': r'formatting (?:is )?([\d.]+) to ([\d.]+) times as fast',
 }
 SAYING = {'README.md': [*SAID], 'docs/compared-with.md': [*SAID][1:]}
-TABLE_HEAD = '| What | Ratio | Peak memory, ours and Rust\'s, MB |\n|---|---|---|\n'
+TABLE_HEAD = '| What | Ratio | Peak memory, ours and Rust\'s, MB | Call |\n|---|---|---|---|\n'
 # The parts of the chart, what people do most first, and next to what each was measured.
 GROUPS = {
     'rust': ('From Rust', 'fluent-bundle', '0.15.3'),
@@ -57,11 +57,13 @@ def ratios(result):
 
 
 def table(results):
-    def row(result):
+    def row(result, before):
         memory = ', '.join(map(str, result.get('megabytes', ())))
-        return f'| {result["what"]} | {ratios(result)} |{f" {memory} " if memory else " "}|\n'
+        call = '' if before and before['call'] == result['call'] else f'`{result["call"]}`'
+        cells = (f' {cell} ' if cell else ' ' for cell in (memory, call))
+        return f'| {result["what"]} | {ratios(result)} |{"|".join(cells)}|\n'
 
-    return TABLE_HEAD + ''.join(map(row, results))
+    return TABLE_HEAD + ''.join(map(row, results, [None, *results]))
 
 
 def times(result):

@@ -9,7 +9,8 @@ type that programs use has a block. Each link leads to a file and a heading that
 `crates` that a page names; each page that a comment names is there; no line of prose in a page is wider than 120
 columns; no page has words that docs/style.md leaves out, and no comment of the code, its definitions and its proofs has
 "behind" for "after"; no comment of code is wider than 100 columns; the README has at most 110 lines, 25 links and 15
-words a sentence, and no cell of the pages on what is proved more than 40; each call in a shell block of a page prints what follows it there; each public call that can fail says
+words a sentence, and no cell of the pages on what is proved more than 40; each time that a
+page says has a call that shows it, or a link to a page with the calls, in its paragraph; each call in a shell block of a page prints what follows it there; each public call that can fail says
 how, under `# Errors`; no clause is longer than 200 characters, and at most 33 are longer than 120; each file that names
 the version names the same one, and each that lists the codes of findings lists the same ones; each place that names the
 version of CLDR names that of tools/cldr.txt; crates.txt is read alike in Python and in shell; the library for C and the
@@ -67,6 +68,11 @@ CODES = {
 WIDEST = 120
 # How long the README is at most: lines, links, and words a sentence.
 README_LINES, README_LINKS, README_WORDS = 110, 25, 15
+# Times that were measured, and what says how: a call, or a link to a page with the calls.
+MEASURED = re.compile(r'\b\d[\d,.]*(?: to \d[\d,.]*)? ?(?:ns|µs|ms|s|seconds|minutes|hours|times as (?:fast|long))\b'
+                      r'|\b(?:an|half an|two|three|four|some|a quarter of an) (?:hours?|minutes?)\b')
+MEASURING = re.compile(r'`[^`]*(?:tools|bench|bindings|crates)/[^`]*`|`(?:(?:\./)?ftl|rt|cargo|python3|\w+\.sh)[^`]*`'
+                       r'|(?:speed|checks|validation)\.md|^    (?:tools|bench|bindings|rt|python3|\./ftl|\(cd|cd)', re.M)
 # How many words a cell of the pages on what is proved has at most.
 CELL_WORDS = 40
 PROGRAM = (ARGUMENTS.program or ROOT / 'crates/ftl/out/ftl').resolve()
@@ -309,6 +315,18 @@ def long_cells():
                 count = len(re.sub(r'\[([^\]]*)\]\([^)]*\)', r'\1', cell).split())
                 if count > CELL_WORDS:
                     yield f'{place_of(page, number)}: a cell of {count} words, and at most {CELL_WORDS} are read'
+
+
+def figures_without_source():
+    """Times in a page, if neither a call nor a link to where the calls are is in the paragraph or the table."""
+    for page in PAGES:
+        text = re.sub(r'^```.*?^```$', lambda block: '\n' * block[0].count('\n'), page.read_text(), flags=re.S | re.M)
+        line = 1
+        for paragraph in re.split(r'((?<!:)\n\s*\n)', text) if page != STYLE else ():
+            time = MEASURED.search(paragraph)
+            if time and not MEASURING.search(paragraph):
+                yield f'{place_of(page, line + paragraph[:time.start()].count(chr(10)))}: {time[0]}, without a call that shows it'
+            line += paragraph.count('\n')
 
 
 def wrong_words():
@@ -584,7 +602,7 @@ def wrong_rows():
 def checks():
     """The checks that are asked for."""
     if not ARGUMENTS.calls:
-        yield from (wrong_quotes, types_without_examples, wrong_links, wide_prose, long_readme, long_cells, wrong_words,
+        yield from (wrong_quotes, types_without_examples, wrong_links, wide_prose, long_readme, long_cells, figures_without_source, wrong_words,
                     wrong_comments, wide_comments,
                     silent_calls, long_clauses, other_versions, other_codes, other_cldr, other_readers, other_interfaces,
                     other_functions, locked_scripts, wrong_counts, wrong_figures, wrong_rows)
