@@ -151,6 +151,8 @@ VERSIONS = {
 }
 VERSIONS_IF_THERE = {
     'README.md': r'\bkozhvadi-(\d[\d.]*\d)-',
+    'docs/install.md': r'\bkozhvadi-(\d[\d.]*\d)-',
+    'docs/command/in-ci.md': r'\bkozhvadi-(\d[\d.]*\d)-',
     'bindings/python/pyproject.toml': r'^version = "([^"]+)"',
     'bindings/python/kozhvadi/__init__.py': r"^__version__ = ['\"]([^'\"]+)",
 }
