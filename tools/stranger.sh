@@ -83,15 +83,24 @@ typed() {
             python3 "$root/tools/release/typed.py" "$room/home/.local/share/doc/kozhvadi/docs/$1"
 }
 
-# Each link of a page leads to a file of the release, once it is installed.
+# Each link of a page leads to a file of the release, once it is installed, and to a heading that is there.
 links_lead_somewhere() {
     python3 - home/.local/share <<'PYTHON'
 import re, sys
 from pathlib import Path
 
 pages = [*Path(sys.argv[1]).rglob("*.md")]
-links = [(page, link) for page in pages for link in re.findall(r"\]\(([^)\s#]+)", page.read_text()) if "://" not in link]
-dead = [f"{page}: {link}" for page, link in links if not (page.parent / link).exists()]
+links = [(page, link) for page in pages for link in re.findall(r"\]\(([^)\s]+)\)", page.read_text()) if "://" not in link]
+
+def is_dead(page, link):
+    path, _, heading = link.partition("#")
+    target = page.parent / path if path else page
+    if not target.exists() or not heading:
+        return not target.exists()
+    names = re.findall(r"^#+ (.*)$", target.read_text(), re.M)
+    return heading not in [re.sub(r"[^\w\- ]", "", name.lower()).replace(" ", "-") for name in names]
+
+dead = [f"{page}: {link}" for page, link in links if is_dead(page, link)]
 sys.exit("\n".join(dead) if dead or len(links) < 50 else 0)
 PYTHON
 }
