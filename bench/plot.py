@@ -3,9 +3,10 @@
 
     bench/plot.py [--check]
 
-A result has the keys `what`, `least` and `most`, the ratios between which several runs lay: Rust's time by ours. If peak
-memory was measured, `megabytes` has ours and Rust's. `bar` is its name in the chart, which has only results with one.
-`kind` is the name under which pages speak of it.
+A result has the keys `what`, `call`, which prints it, and `least` and `most`, the ratios between which several runs lay:
+Rust's time by ours. If peak memory was measured, `megabytes` has ours and Rust's. `bar` is its name in the chart, which has
+only results with one, and `group` the part of the chart; `time` is ours in microseconds, of which the chart also makes the
+other crate's. `kind` is the name under which pages speak of it.
 
 Writes the chart docs/images/speed.svg and the table of docs/inside/speed.md. `--check` writes nothing, and ends with 1 if
 either isn't that of the results, or a page says another range of a kind.
@@ -28,11 +29,18 @@ SAID = {
     'formatting in Rattle': r'formatting (?:is )?([\d.]+) to ([\d.]+) times as fast',
 }
 SAYING = {'README.md': [*SAID], 'docs/compared-with.md': [*SAID][1:]}
-TABLE_HEAD = '| What | Ratio | Peak memory, ours and Rust\'s, MB |\n|---|---|---|\n'
+TABLE_HEAD = '| What | Ratio | Peak memory, ours and Rust\'s, MB | Call |\n|---|---|---|---|\n'
+# The parts of the chart, what people do most first, and next to what each was measured.
+GROUPS = {
+    'rust': ('From Rust', 'fluent-bundle', '0.15.3'),
+    'files': ('Reading files, in Rattle', 'fluent-syntax', '0.11.1'),
+    'command': ('The command', 'a program over fluent-bundle', '0.15.3'),
+    'rattle': ('Showing texts, in Rattle', 'fluent-bundle', '0.15.3'),
+}
 # Lengths in the chart, in pixels: the column of names, one time Rust's speed, a row, a bar, what is above the first row.
 NAMES, UNIT, ROW, BAR, HEAD = 250, 130, 26, 14, 40
 STYLE = '''
-    text { font: 13px system-ui, sans-serif; fill: #24292f }
+    text { font: 13px system-ui, sans-serif; fill: #24292f } .group { font-weight: 600 }
     .least { fill: #2f6f4f } .most { fill: #2f6f4f; opacity: .35 } .slower { fill: #a1542b }
     .one { stroke: #24292f; stroke-dasharray: 4 3 }
     @media (prefers-color-scheme: dark) {
@@ -49,11 +57,35 @@ def ratios(result):
 
 
 def table(results):
-    def row(result):
+    def row(result, before):
         memory = ', '.join(map(str, result.get('megabytes', ())))
-        return f'| {result["what"]} | {ratios(result)} |{f" {memory} " if memory else " "}|\n'
+        call = '' if before and before['call'] == result['call'] else f'`{result["call"]}`'
+        cells = (f' {cell} ' if cell else ' ' for cell in (memory, call))
+        return f'| {result["what"]} | {ratios(result)} |{"|".join(cells)}|\n'
 
-    return TABLE_HEAD + ''.join(map(row, results))
+    return TABLE_HEAD + ''.join(map(row, results, [None, *results]))
+
+
+def times(result):
+    """The time of a result and that of the other crate, if it has one."""
+    if 'time' not in result:
+        return ''
+    other = GROUPS[result['group']][1]
+    return f' ({result["time"]:.2f} µs, and {other} {result["time"] * result["least"]:.2f} µs)'
+
+
+def heading(group, number):
+    """The row above the results of a part, as an element of SVG."""
+    title, other, version = GROUPS[group]
+    return (f'  <text class="group" x="{NAMES - 10}" y="{HEAD + number * ROW + BAR - 3}" text-anchor="end">{title}</text>\n'
+            f'  <text x="{NAMES + UNIT + 8}" y="{HEAD + number * ROW + BAR - 3}">next to {other} {version}</text>\n')
+
+
+def rows(shown):
+    """The rows of the chart: that of each part, and those of its results."""
+    for group in GROUPS:
+        yield group, None
+        yield from ((group, result) for result in shown if result['group'] == group)
 
 
 def bar(result, number):
@@ -66,18 +98,19 @@ def bar(result, number):
             f'  <rect class="{kind}" x="{NAMES}" y="{top}" width="{result["least"] * UNIT:.0f}" height="{BAR}"/>\n'
             f'  <rect class="most" x="{NAMES + result["least"] * UNIT:.0f}" y="{top}" '
             f'width="{(result["most"] - result["least"]) * UNIT:.0f}" height="{BAR}"/>\n'
-            f'  <text x="{end + 8:.0f}" y="{middle}">{ratios(result)}</text>\n')
+            f'  <text x="{end + 8:.0f}" y="{middle}">{ratios(result)}{times(result)}</text>\n')
 
 
 def chart(results):
     shown = [result for result in results if 'bar' in result]
     width = NAMES + max(result['most'] for result in shown) * UNIT + 110
-    height = HEAD + len(shown) * ROW + 10
+    drawn = [*rows(shown)]
+    height = HEAD + len(drawn) * ROW + 10
     one = NAMES + UNIT
     return (f'<svg xmlns="http://www.w3.org/2000/svg" viewBox="0 0 {width:.0f} {height}" role="img">\n'
             f'  <title>How many times as fast as the Rust crates: {escape(told(shown))}</title>\n'
             f'  <style>{STYLE}  </style>\n'
-            f'{"".join(bar(result, number) for number, result in enumerate(shown))}'
+            f'{"".join(bar(result, number) if result else heading(group, number) for number, (group, result) in enumerate(drawn))}'
             f'  <line class="one" x1="{one}" y1="{HEAD - 12}" x2="{one}" y2="{height - 10}"/>\n'
             f'  <text x="{one}" y="{HEAD - 18}" text-anchor="middle">as fast as Rust</text>\n'
             f'</svg>\n')
@@ -85,7 +118,12 @@ def chart(results):
 
 def told(shown):
     """The chart in words, for those who don't see it."""
-    return '; '.join(f'{result["bar"]} {ratios(result)}' for result in shown)
+    def part(group):
+        title, other, version = GROUPS[group]
+        results = (f'{result["bar"]} {ratios(result)}{times(result)}' for result in shown if result['group'] == group)
+        return f'{title}, next to {other} {version}: {"; ".join(results)}'
+
+    return '. '.join(map(part, GROUPS))
 
 
 def made(results):

@@ -75,33 +75,49 @@ damage_is_noticed() {
         [ ! -e "$room/nowhere" ]
 }
 
-# Each link of a page leads to a file of the release, once it is installed.
+# Does what a page of the release says, in an empty folder at that home.
+typed() {
+    local rustup=${RUSTUP_HOME:-$HOME/.rustup} cargo=${CARGO_HOME:-$HOME/.cargo}
+    mkdir -p "typed/$1" && cd "typed/$1" &&
+        env -u FLUENT_C_LIB -u RATTLE_KIT_C HOME="$room/home" RUSTUP_HOME="$rustup" CARGO_HOME="$cargo" PATH="$room/home/.local/bin:$PATH" \
+            python3 "$root/tools/release/typed.py" "$room/home/.local/share/doc/kozhvadi/docs/$1"
+}
+
+# Each link of a page leads to a file of the release, once it is installed, and to a heading that is there.
 links_lead_somewhere() {
     python3 - home/.local/share <<'PYTHON'
 import re, sys
 from pathlib import Path
 
 pages = [*Path(sys.argv[1]).rglob("*.md")]
-links = [(page, link) for page in pages for link in re.findall(r"\]\(([^)\s#]+)", page.read_text()) if "://" not in link]
-dead = [f"{page}: {link}" for page, link in links if not (page.parent / link).exists()]
+links = [(page, link) for page in pages for link in re.findall(r"\]\(([^)\s]+)\)", page.read_text()) if "://" not in link]
+
+def is_dead(page, link):
+    path, _, heading = link.partition("#")
+    target = page.parent / path if path else page
+    if not target.exists() or not heading:
+        return not target.exists()
+    names = re.findall(r"^#+ (.*)$", target.read_text(), re.M)
+    return heading not in [re.sub(r"[^\w\- ]", "", name.lower()).replace(" ", "-") for name in names]
+
+dead = [f"{page}: {link}" for page, link in links if is_dead(page, link)]
 sys.exit("\n".join(dead) if dead or len(links) < 50 else 0)
 PYTHON
 }
 
-# The C program of the README, and the first one of the page, over pkg-config: by the shared library and by the static one.
+# The C program of the README, over pkg-config; and the first one of the page, as it says and by the static library.
 c_program() {
-    follows 2 | diff "$root/bindings/c/functions.expected" - || return
-    sed '1,/^```c$/d;/^```$/,$d' home/.local/share/doc/kozhvadi/bindings/c/README.md >first.c
-    export PKG_CONFIG_PATH=$room/home/.local/lib/pkgconfig
-    cc first.c $(pkg-config --cflags --libs fluent_c) && ./a.out &&
-        cc -Wall -Wextra -o static first.c $(pkg-config --cflags fluent_c) "$room/home/.local/lib/libfluent_c.a" && ./static &&
-        [ "$(./static)" = "$(./a.out)" ]
+    follows 2 | diff "$root/bindings/c/functions.expected" - && (typed c-and-cpp/first-program-in-c.md) || return
+    cd typed/c-and-cpp/first-program-in-c.md && export PKG_CONFIG_PATH=$room/home/.local/lib/pkgconfig
+    cc -Wall -Wextra -o static first.c $(pkg-config --cflags fluent_c) "$room/home/.local/lib/libfluent_c.a" &&
+        [ "$(./static)" = "$(./first)" ]
 }
 
-# The program of the page for C++, found by CMake over the shared library and over the static one; and the example.
+# The program of the page for C++, as it says, and found by CMake over the shared library and over the static one; and the
+# example.
 cpp_program() {
     local doc=home/.local/share/doc/kozhvadi target
-    mkdir cpp && sed '1,/^```cpp$/d;/^```$/,$d' "$doc/bindings/cpp/README.md" >cpp/first.cpp || return
+    (typed c-and-cpp/cpp.md) && mkdir cpp && cp typed/c-and-cpp/cpp.md/inbox.cpp cpp/first.cpp || return
     cat >cpp/CMakeLists.txt <<'CMAKE'
 cmake_minimum_required(VERSION 3.13)
 project(stranger CXX)
@@ -143,6 +159,11 @@ print(bundle.format("hello", name="Jane").text)
 import doctest, importlib.metadata
 session = importlib.metadata.metadata("kozhvadi")["Description"].partition("```python")[2].partition("```")[0]
 assert doctest.DocTestRunner().run(doctest.DocTestParser().get_doctest(session, {}, "README", None, 0)) == (0, 5)')" = 'Hello, Jane!' ]
+}
+
+# The first program of the page, in the environment that is there.
+python_page() {
+    typed python/first-program.md
 }
 
 # The example that changes files, over a file of the stranger's.
@@ -202,23 +223,9 @@ highlights() {
     fi
 }
 
+# A package to which the README's lines add this one, and the first program of the page.
 rust_program() {
-    cargo init --quiet --vcs none --name stranger rust && (cd rust && follows 4) && cat >rust/src/main.rs <<'RUST'
-use kozhvadi::{FluentArgs, FluentBundle, FluentResource};
-
-fn main() {
-    let resource = FluentResource::try_new("hello = Hello, { $name }!".to_string()).expect("the source is right");
-    let mut bundle = FluentBundle::new(vec!["en"]);
-    bundle.set_use_isolating(false);
-    bundle.add_resource(resource).expect("no id is taken");
-    let mut args = FluentArgs::new();
-    args.set("name", "Jane");
-    let message = bundle.get_message("hello").expect("the message is there");
-    let pattern = message.value().expect("it has a value");
-    println!("{}", bundle.format_pattern(pattern, Some(&args), &mut vec![]));
-}
-RUST
-    cd rust && env -u FLUENT_C_LIB -u RATTLE_KIT_C cargo build --quiet --offline && [ "$(target/debug/stranger)" = 'Hello, Jane!' ]
+    cargo init --quiet --vcs none --name stranger rust && (cd rust && follows 4) && typed rust/first-program.md
 }
 
 rust_server() {
@@ -234,18 +241,20 @@ step_with tar 'ftl answers' answers
 step_with tar 'the man page and the completions have each command and option' man_page_lists_commands
 step_with bash 'bash completes' completes
 step_with tar 'it installs and is removed' installs
+step_with python3 'the page on the command line shows what ftl prints' typed command/command-line.md
 step_with tar 'a damaged release is not installed' damage_is_noticed
 step_with python3 'the links of its pages lead somewhere' links_lead_somewhere
-step_with 'cc pkg-config' 'a C program links it by pkg-config, and runs' c_program
-step_with 'c++ cmake' 'a C++ program finds it by CMake, and runs' cpp_program
+step_with 'cc pkg-config python3' 'the first program in C does what its page says' c_program
+step_with 'c++ cmake pkg-config python3' 'the first program in C++ does what its page says, and CMake finds the library' cpp_program
 step_with luajit 'a program for LuaJIT calls it by handles' lua_program
 step_with nm 'the shared library gives out the headers alone' exports_the_headers_alone
 step_with python3 'pip installs the wheel, and a program uses it' python_program
+step_with python3 'the first program in Python does what its page says' python_page
 step_with python3 'an example in Python changes a file' python_example
 step_with python3 'an example in Python is a site' python_site
 step_with python3 'its language server and its playground begin' python_tools
 step_with python3 'editors highlight a file' highlights
-step_with cargo 'cargo builds a program over the package' rust_program
+step_with 'cargo python3' 'the first program in Rust does what its page says' rust_program
 step_with 'cargo python3' 'an example in Rust is a web server' rust_server
 
 counts

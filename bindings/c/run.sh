@@ -1,9 +1,9 @@
 #!/bin/sh
-# Builds the C programs of this folder over the static library, runs them, and compares what they print: that of README.md with
-# what the page says, messages.c with `expected`, functions.c and dates.c with functions.expected and dates.expected, and the
-# tests of `tests` with theirs; numerals.c compares what it formats itself, and doubles.py what doubles.c writes, also in a locale
-# with a decimal comma; threads.c asks from eight threads, and is built with the sanitizer for them if the compiler has it. That
-# of README.md, named.c, functions.c and dates.c are built as C++ too, if there is a compiler for it, and no warning is let through. The
+# Builds the C programs of this folder and that of docs/c-and-cpp/first-program-in-c.md over the static library, runs them, and
+# compares what they print: that of the page with what it says, messages.c with `expected`, functions.c and dates.c with
+# functions.expected and dates.expected, and the tests of `tests` with theirs; numerals.c compares what it formats itself, and
+# doubles.py what doubles.c writes, also in a locale with a decimal comma; threads.c asks from eight threads, and is built with
+# the sanitizer for them if the compiler has it. That of the page, named.c, functions.c and dates.c are built as C++ too, if there is a compiler for it, and no warning is let through. The
 # tests count the blocks of memory that are left; they are built with the sanitizers if the compiler has them, and else run
 # under valgrind if it is there.
 set -eu
@@ -17,7 +17,8 @@ version=$(sed -n 's/^version = "\(.*\)"$/\1/p' "$root/bindings/rust/Cargo.toml")
 minor=${version#*.}
 number=$((${version%%.*} * 1000000 + ${minor%%.*} * 1000 + ${version##*.}))
 grep -qx "#define FLUENT_VERSION $number" "$header/fluent_c.h"
-sed '1,/^```c$/d;/^```$/,$d' "$here/README.md" >"$built/first.c"
+page=$root/docs/c-and-cpp/first-program-in-c.md
+sed '1,/^```c$/d;/^```$/,$d' "$page" >"$built/first.c"
 cp "$here/messages.c" "$here/named.c" "$here/functions.c" "$here/dates.c" "$built"
 strict='-Wall -Wextra -Wpedantic -Werror'
 for program in first messages named functions dates; do
@@ -32,7 +33,7 @@ if command -v c++ >/dev/null; then
         "$built/$program" | cmp - "$built/$program.printed"
     done
 fi
-grep -qF "\`$(cat "$built/first.printed")\`" "$here/README.md"
+grep -qxF "$(cat "$built/first.printed")" "$page"
 diff "$here/expected" "$built/messages.printed"
 diff "$here/functions.expected" "$built/functions.printed"
 diff "$here/dates.expected" "$built/dates.printed"

@@ -1,5 +1,5 @@
 #!/bin/sh
-# Builds the program of README.md over the static library with each compiler for C++ that is there, as C++17, C++20 and C++23,
+# Builds the program of docs/c-and-cpp/cpp.md over the static library with each compiler for C++ that is there, as C++17, C++20 and C++23,
 # and lets no warning through; each has to print what the page says. Builds the tests of the folder `tests` by each with the
 # sanitizers for addresses and undefined behavior, and with the one for threads, and runs them; and the example notes.cpp, which
 # has to print `notes.expected`. A compiler without a sanitizer builds the tests without it.
@@ -25,12 +25,13 @@ done
 compilers=${compilers:- c++}
 last=${compilers##* }
 
-sed '1,/^```cpp$/d;/^```$/,$d' "$here/README.md" >"$built/first.cpp"
+page=$root/docs/c-and-cpp/cpp.md
+sed '1,/^```cpp$/d;/^```$/,$d' "$page" >"$built/first.cpp"
 for compiler in $compilers; do
     for standard in 17 20 2b; do
         build $compiler "$built/first" -std=c++$standard "$built/first.cpp"
         printed=$("$built/first")
-        grep -qF "\`$printed\`" "$here/README.md"
+        grep -qxF "$printed" "$page"
         echo "$compiler, C++$standard: $printed"
     done
 done

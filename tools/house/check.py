@@ -9,7 +9,8 @@ type that programs use has a block. Each link leads to a file and a heading that
 `crates` that a page names; each page that a comment names is there; no line of prose in a page is wider than 120
 columns; no page has words that docs/style.md leaves out, and no comment of the code, its definitions and its proofs has
 "behind" for "after"; no comment of code is wider than 100 columns; the README has at most 110 lines, 25 links and 15
-words a sentence; each call in a shell block of a page prints what follows it there; each public call that can fail says
+words a sentence, and no cell of the pages on what is proved more than 40; each time that a
+page says has a call that shows it, or a link to a page with the calls, in its paragraph; each call in a shell block of a page prints what follows it there; each public call that can fail says
 how, under `# Errors`; no clause is longer than 200 characters, and at most 33 are longer than 120; each file that names
 the version names the same one, and each that lists the codes of findings lists the same ones; each place that names the
 version of CLDR names that of tools/cldr.txt; crates.txt is read alike in Python and in shell; the library for C and the
@@ -35,7 +36,7 @@ from pathlib import Path
 sys.path.insert(0, str(Path(__file__).resolve().parents[1]))
 
 import reflow
-from lib import c_interface, cldr, function_table
+from lib import c_interface, cldr, function_table, sessions
 from lib.crates import below, uses
 
 
@@ -67,6 +68,13 @@ CODES = {
 WIDEST = 120
 # How long the README is at most: lines, links, and words a sentence.
 README_LINES, README_LINKS, README_WORDS = 110, 25, 15
+# Times that were measured, and what says how: a call, or a link to a page with the calls.
+MEASURED = re.compile(r'\b\d[\d,.]*(?: to \d[\d,.]*)? ?(?:ns|µs|ms|s|seconds|minutes|hours|times as (?:fast|long))\b'
+                      r'|\b(?:an|half an|two|three|four|some|a quarter of an) (?:hours?|minutes?)\b')
+MEASURING = re.compile(r'`[^`]*(?:tools|bench|bindings|crates)/[^`]*`|`(?:(?:\./)?ftl|rt|cargo|python3|\w+\.sh)[^`]*`'
+                       r'|(?:speed|checks|validation)\.md|^    (?:tools|bench|bindings|rt|python3|\./ftl|\(cd|cd)', re.M)
+# How many words a cell of the pages on what is proved has at most.
+CELL_WORDS = 40
 PROGRAM = (ARGUMENTS.program or ROOT / 'crates/ftl/out/ftl').resolve()
 # What `./ftl` is in a page.
 SCRIPT = """#!/bin/sh
@@ -112,8 +120,8 @@ NAMING = ['crates/*/src/**/*.rt', 'crates/*/specs/**/*.antt', 'crates/*/*.h', 'c
 EXAMPLES = {
     '': [*(f'crates/{crate}/src/**/*.rt' for crate in ('example*', 'rows_*', 'ftl_*', 'fluent_c')),
          'tests/more_rows/src/**/*.rt.txt'],
-    'rust': ['crates/example*/src/**/*.rt', 'bindings/rust/README.md'],
-    'c': ['*s/c/*.c', 'bindings/c/README.md'],
+    'rust': ['crates/example*/src/**/*.rt', 'bindings/rust/README.md', 'docs/rust/*.md'],
+    'c': ['*s/c/*.c', 'docs/c-and-cpp/first-program-in-c.md'],
     'python': ['examples/python/*.py', 'bindings/python/README.md', 'docs/python/*.md'],
 }
 # What parts a program's `main.rt` from its module in the crate `examples`: a line of root files, and that its `main` is called.
@@ -143,6 +151,8 @@ VERSIONS = {
 }
 VERSIONS_IF_THERE = {
     'README.md': r'\bkozhvadi-(\d[\d.]*\d)-',
+    'docs/install.md': r'\bkozhvadi-(\d[\d.]*\d)-',
+    'docs/command/in-ci.md': r'\bkozhvadi-(\d[\d.]*\d)-',
     'bindings/python/pyproject.toml': r'^version = "([^"]+)"',
     'bindings/python/kozhvadi/__init__.py': r"^__version__ = ['\"]([^'\"]+)",
 }
@@ -299,6 +309,28 @@ def long_readme():
             yield f'README.md: {count:.4g} {what}, and at most {most} are read'
 
 
+def long_cells():
+    """The pages on what is proved are read row by row."""
+    for page in (ROOT / 'docs/inside' / name for name in ('proved.md', 'proofs.md')):
+        for number, line in prose_of(page):
+            for cell in line.split('|') if line.startswith('|') else ():
+                count = len(re.sub(r'\[([^\]]*)\]\([^)]*\)', r'\1', cell).split())
+                if count > CELL_WORDS:
+                    yield f'{place_of(page, number)}: a cell of {count} words, and at most {CELL_WORDS} are read'
+
+
+def figures_without_source():
+    """Times in a page, if neither a call nor a link to where the calls are is in the paragraph or the table."""
+    for page in PAGES:
+        text = re.sub(r'^```.*?^```$', lambda block: '\n' * block[0].count('\n'), page.read_text(), flags=re.S | re.M)
+        line = 1
+        for paragraph in re.split(r'((?<!:)\n\s*\n)', text) if page != STYLE else ():
+            time = MEASURED.search(paragraph)
+            if time and not MEASURING.search(paragraph):
+                yield f'{place_of(page, line + paragraph[:time.start()].count(chr(10)))}: {time[0]}, without a call that shows it'
+            line += paragraph.count('\n')
+
+
 def wrong_words():
     left_out = re.compile(r'\b(' + '|'.join(map(re.escape, words_left_out())) + r')\b', re.I)
     for page in PAGES:
@@ -361,38 +393,6 @@ def other_codes():
             yield f'{name}: the code `{code}` is {"not " if code in codes[first] else ""}listed, unlike in {first}'
 
 
-def calls_of(block):
-    """The calls of a shell block, as (call, what it prints)."""
-    calls = []
-    for line in block:
-        if line.startswith('$ '):
-            calls.append((line[2:], []))
-        elif calls:
-            calls[-1][1].append(line)
-    return [(call, '\n'.join(lines).rstrip('\n')) for call, lines in calls]
-
-
-def printed_by(call, status, folder):
-    """What a call prints after one that ended with this status, and the status that it ends with itself."""
-    ended = subprocess.run(['bash', '-c', f'(exit {status}); {call}'], cwd=folder, stdin=subprocess.DEVNULL,
-                           stdout=subprocess.PIPE, stderr=subprocess.STDOUT)
-    return ended.stdout.decode(errors='replace').rstrip('\n'), ended.returncode
-
-
-def wrong_calls(page, folder):
-    """Makes the calls of a page in this folder. `cat FILE` of a file that isn't there makes it."""
-    status = 0
-    for number, block in indented_blocks(page.read_text().split('\n')):
-        for call, shown in calls_of(block):
-            made = re.fullmatch(r'cat (\S+)', call)
-            if made and not (folder / made.group(1)).exists():
-                (folder / made.group(1)).write_text(shown + '\n')
-                continue
-            printed, status = printed_by(call, status, folder)
-            if printed != shown:
-                yield f'{place_of(page, number)}: `{call}` prints\n{printed}'
-
-
 def wrong_outputs():
     script, program = (shlex.quote(str(path)) for path in (ROOT / 'ftl', PROGRAM))
     # So that no call shows how the unproved program is built.
@@ -404,7 +404,9 @@ def wrong_outputs():
             (folder / 'ftl').chmod(0o755)
             shutil.copytree(ROOT / 'examples', folder / 'examples')
             (folder / 'tools').symlink_to(ROOT / 'tools')
-            yield from wrong_calls(page, folder)
+            blocks = indented_blocks(page.read_text().split('\n'))
+            for number, call, printed in sessions.wrong_calls(blocks, folder):
+                yield f'{place_of(page, number)}: `{call}` prints\n{printed}'
 
 
 def signature_of(lines, start):
@@ -602,7 +604,7 @@ def wrong_rows():
 def checks():
     """The checks that are asked for."""
     if not ARGUMENTS.calls:
-        yield from (wrong_quotes, types_without_examples, wrong_links, wide_prose, long_readme, wrong_words,
+        yield from (wrong_quotes, types_without_examples, wrong_links, wide_prose, long_readme, long_cells, figures_without_source, wrong_words,
                     wrong_comments, wide_comments,
                     silent_calls, long_clauses, other_versions, other_codes, other_cldr, other_readers, other_interfaces,
                     other_functions, locked_scripts, wrong_counts, wrong_figures, wrong_rows)

@@ -5,7 +5,8 @@
 
 A page is where it is in the repository, below RELEASE/share/doc/kozhvadi, but for that of the Cargo package. What only
 someone with the repository can do is left out: the beginnings of three pages are those of this folder, and a section on
-building or on tests isn't there. A link to what isn't in the release becomes its words.
+building or on tests isn't there. A link to what isn't in the release becomes its words, and the script `./ftl` the
+program.
 """
 
 import os
@@ -34,13 +35,15 @@ BEGINNINGS = {
 }
 # Pages and sections for someone with the repository.
 OF_THE_REPOSITORY = ('install.md', 'style.md')
-LEFT_OUT = re.compile(r'^## (?:Build it|Tests)\n.*?(?=^## |\Z)', re.M | re.S)
+LEFT_OUT = re.compile(r'^## (?:Build it|Tests|The script `ftl`)\n.*?(?=^## |\Z)', re.M | re.S)
+# The script of the repository, where a release has the program.
+SCRIPT = re.compile(r'(?<![\w/.])\./ftl\b(?! --(?:unproved|no-build))')
 LINK = re.compile(r'!?\[([^\]]*)\]\(([^)\s#]+)(#[^)\s]*)?\)')
 
 
 def released(root: Path) -> dict[str, Path]:
     """The files of the repository that a release has, and where it has them."""
-    docs = ('docs', *(f'docs/{name}' for name in ('command', 'c-and-cpp', 'python', 'rattle', 'reference')))
+    docs = ('docs', *(f'docs/{name}' for name in ('command', 'c-and-cpp', 'rust', 'python', 'rattle', 'reference')))
     bindings = ('bindings', *(f'bindings/{name}' for name in ('c', 'cpp', 'ffi', 'python')))
     pages = [page for folder in docs + bindings for page in root.glob(f'{folder}/*.md') if page.name not in OF_THE_REPOSITORY]
     patterns = ('*.ftl', 'l10n/*/main.ftl', 'notes/*/notes.ftl')
@@ -80,6 +83,8 @@ def page_of(root: Path, page: str, places: dict[str, Path]) -> str:
         text = beginning + text[text.index('\n## '):]
     text = linked(LEFT_OUT.sub('', text).rstrip() + '\n', page, places)
     examples = os.path.relpath(DOC / 'examples', CARGO)
+    if page.startswith('docs/'):
+        text = SCRIPT.sub('ftl', text)
     return re.sub(r'\bbindings/c(?:pp)?/(\w+\.c(?:pp)?)\b', r'examples/\1', text).replace('"../../examples/', f'"{examples}/')
 
 
