@@ -205,6 +205,13 @@ class Syntax(unittest.TestCase):
                 self.assertEqual(serialize(parse(row["source"])), row["written"])
                 self.assertEqual(serialize(parse(row["source"]), with_junk=True), row["written_with_junk"])
 
+    def test_a_serializer_of_a_program(self):
+        class Short(FluentSerializer):
+            def serialize_entry(self, entry, state=0):
+                return f"{entry.id.name}\n"
+
+        self.assertEqual(Short().serialize(parse("a = 1\nb = 2\n")), "a\nb\n")
+
     def test_files_of_a_corpus(self):
         """Files of the folder that CORPUS names."""
         for path in Path(os.environ["CORPUS"]).rglob("*.ftl") if os.environ.get("CORPUS") else []:
@@ -236,6 +243,27 @@ class Syntax(unittest.TestCase):
 
         changed = Renamed().visit(parse("two = { -brand } here\n"))
         self.assertEqual(serialize(changed), 'two = { "brand" } here\n')
+
+        class Skeleton(visitor.Transformer):
+            """A variant without texts for each category, made of the default one."""
+
+            def visit_SelectExpression(self, node):
+                template = self.visit(next(variant for variant in node.variants if variant.default))
+                template.default = False
+                node.variants[:] = []
+                for name in ("one", "few", "other"):
+                    variant = template.clone()
+                    variant.key.name = name
+                    node.variants.append(variant)
+                node.variants[-1].default = True
+                return node
+
+            def visit_TextElement(self, node):
+                return None
+
+        skeleton = Skeleton().visit(parse("n = { $n ->\n    [one] One\n   *[other] { $n } files\n}\n"))
+        variants = "\n        [one] { $n }\n        [few] { $n }\n       *[other] { $n }\n    }\n"
+        self.assertEqual(serialize(skeleton), "n =\n    { $n ->" + variants)
         self.assertEqual(str(ast.Identifier("a")), '{"span": null, "name": "a", "type": "Identifier"}')
 
     def test_texts(self):
