@@ -4,20 +4,22 @@
     tools/house/check.py [--sources|--calls] [--program PROGRAM] [ROOT]
 
 Each block of code in a page is cut from an example, and each in the doc comment of a public crate from an example or
-another crate that the gate proves or tries, unless its fence is `no_run`: such a block was only tried once. Each public
-type that programs use has a block. Each link leads to a file and a heading that are there, and so does each path in
-`crates` that a page names; each page that a comment names is there; no line of prose in a page is wider than 120
-columns; no page has words that docs/style.md leaves out, and no comment of the code, its definitions and its proofs has
-"behind" for "after"; no comment of code is wider than 100 columns; the README has at most 110 lines, 25 links and 15
-words a sentence, and no cell of the pages on what is proved more than 40; each time that a
-page says has a call that shows it, or a link to a page with the calls, in its paragraph; each call in a shell block of a page prints what follows it there; each public call that can fail says
-how, under `# Errors`; no clause is longer than 200 characters, and at most 33 are longer than 120; each file that names
-the version names the same one, and each that lists the codes of findings lists the same ones; each place that names the
-version of CLDR names that of tools/cldr.txt; crates.txt is read alike in Python and in shell; the library for C and the
-packages for Rust and Python have the numbers, structs and calls of its header; the library and the package for Python
-know the same of the functions that come with the library; each file that names its interpreter can be run; the counts of crates and functions in the pages on proofs are
-those of the sources; the figures that a file of results has are those of the pages; and each law, function and clause
-that a row of `proved.md` names is in the row's crates.
+another crate that the gate proves or tries, unless its fence is `no_run`: such a block was only tried once. Each
+public type that programs use has a block. Each link leads to a file and a heading that are there, and so does each
+path in `crates` that a page names; each page that a comment names is there; no line of prose in a page is wider than
+120 columns; no page has words that docs/style.md leaves out, and no comment of the code, its definitions and its
+proofs has "behind" for "after"; no comment of code is wider than 100 columns; the README has at most 110 lines, 25
+links and 15 words a sentence, and no cell of the pages on what is proved more than 40; each time that a page says has
+a call that shows it, or a link to a page with the calls, in its paragraph; each call in a shell block of a page prints
+what follows it there; each public call that can fail says how, under `# Errors`; no clause is longer than 200
+characters, and at most 33 are longer than 120; each file that names the version names the same one, and each that
+lists the codes of findings lists the same ones; each place that names the version of CLDR names that of
+tools/cldr.txt; crates.txt is read alike in Python and in shell; the library for C and the packages for Rust and Python
+have the numbers, structs and calls of its header; the library and the package for Python know the same of the
+functions that come with the library; each file that names its interpreter can be run, and each edit that must fail
+applies; the counts of crates and functions in the pages on proofs are those of the sources; the figures that a file of
+results has are those of the pages; and each law, function and clause that a row of `proved.md` names is in the row's
+crates.
 
 Prints what isn't so, then how many of these checks passed and failed, and ends with 1 if one failed. The calls of shell
 blocks need a built program, which is `crates/ftl/out/ftl` if no other is named: without it they are skipped. `--calls` runs
@@ -38,6 +40,7 @@ sys.path.insert(0, str(Path(__file__).resolve().parents[1]))
 import reflow
 from lib import c_interface, cldr, function_table, sessions
 from lib.crates import below, uses
+from trying.edited import edits_of
 
 
 def arguments():
@@ -534,6 +537,14 @@ def other_functions():
     yield from function_table.differences(ROOT)
 
 
+def stale_edits():
+    """The edits that must fail whose text isn't there, or more than once, in the file that they name."""
+    for crate in uses(ROOT):
+        for edit in edits_of(crate):
+            if not edit.applies():
+                yield f'{edit}: its text has to stand once in {edit.path}'
+
+
 def locked_scripts():
     """The files that name their interpreter and can't be run."""
     for path in sorted(ROOT.glob('*/**/*.[ps][yh]')):
@@ -607,7 +618,7 @@ def checks():
         yield from (wrong_quotes, types_without_examples, wrong_links, wide_prose, long_readme, long_cells, figures_without_source, wrong_words,
                     wrong_comments, wide_comments,
                     silent_calls, long_clauses, other_versions, other_codes, other_cldr, other_readers, other_interfaces,
-                    other_functions, locked_scripts, wrong_counts, wrong_figures, wrong_rows)
+                    other_functions, stale_edits, locked_scripts, wrong_counts, wrong_figures, wrong_rows)
     if ARGUMENTS.sources:
         return
     if PROGRAM.exists():
