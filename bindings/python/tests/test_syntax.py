@@ -205,6 +205,11 @@ class Syntax(unittest.TestCase):
                 self.assertEqual(serialize(parse(row["source"])), row["written"])
                 self.assertEqual(serialize(parse(row["source"]), with_junk=True), row["written_with_junk"])
 
+    def test_a_text_that_begins_with_blank_lines(self):
+        """No blank is written at the end of a line."""
+        blank = ast.Message(ast.Identifier("a"), ast.Pattern([ast.TextElement("\n\nb")]))
+        self.assertEqual(serialize(ast.Resource([blank])), "a =\n\n\n    b\n")
+
     def test_a_serializer_of_a_program(self):
         class Short(FluentSerializer):
             def serialize_entry(self, entry, state=0):

@@ -73,7 +73,9 @@ def _indented(text: str) -> str:
 def serialize_pattern(pattern: ast.Pattern) -> str:
     """The text of a pattern after a `=` or a key: on a new line if it has several."""
     content = _indented("".join(map(serialize_element, pattern.elements)))
-    return f"\n    {content}" if _starts_on_new_line(pattern) else f" {content}"
+    if not _starts_on_new_line(pattern):
+        return f" {content}"
+    return f"\n{content}" if content.startswith("\n") else f"\n    {content}"
 
 
 def _starts_on_new_line(pattern: ast.Pattern) -> bool:
