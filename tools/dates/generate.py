@@ -186,10 +186,12 @@ class Writer:
         rust = ["//! The tags, and the numbers of their rows. A longer tag is before one that it begins with.", f"// {self.note}",
                 "ghost use Rattle.std.specs.Prelude.{◌≡◌};", f"ghost use Rattle.fluent_date_tables.specs.Tags.{{{', '.join(names)}, row_for}};",
                 "ghost use Rattle.fluent_date_tables.specs.Tables.{first_of};", "",
-                "use crate::tables::{Tagged, first_entry, first_fitting};", "", "/// Tags and numbers.", "macro_rules! tags {", "    ($($tag:literal $row:literal,)*) => {",
+                "use crate::tables::{Tagged, first_fitting};", "", "/// Tags and numbers.", "macro_rules! tags {", "    ($($tag:literal $row:literal,)*) => {",
                 "        [$(Tagged { tag: $tag, row: $row }),*]", "    };", "}", "",
                 "/// The row of the longest tag that a text begins with.", "pub fn row_for(tag: &[u8]) -> Option<u16>", "    ensures { result ≡ row_for tag.now }", "{",
-                "    " + self.nested("first_entry({}, {})", [f"row_in_{k + 1}(tag)" for k in range(len(chunks))]), "}"]
+                *[line for k in range(len(chunks) - 1)
+                  for line in (f"    if let Some(row) = row_in_{k + 1}(tag) {{", "        return Some(row);", "    }")],
+                f"    row_in_{len(chunks)}(tag)", "}"]
         antt = [f"-- {self.note}", "-- The tags, and the numbers of their rows. A longer tag is before one that it begins with.",
                 "use Rattle.std.specs.Prelude.{ℕ, List, [], ◌∷◌, Option}", "use Rattle.fluent_date_tables.specs.Tables.{Text, Tagged, ◌⇒◌, first_of, or_else}"]
         for k, chunk in enumerate(chunks):

@@ -10,7 +10,7 @@ version=$(cat "$top/tools/cldr.txt")
 data=$here/cldr-$version
 rows=$top/tests/more_rows/data/dates.txt
 python3 -B "$here/generate.py" "$data/dates.json" "$top/crates/fluent_date_tables"
-python3 -B "$here/rows.py" 600 > "$rows"
+python3 -B "$here/rows.py" > "$rows"
 for crate in fluent_date_tables fluent_dates; do
     cp "$data/LICENSE-UNICODE" "$top/crates/$crate/LICENSE-UNICODE"
     (cd "$top/crates/$crate" && rt fmt)

@@ -4,18 +4,20 @@ import re
 
 CODE = 'crates/lint_flaws/src/builtins.rt'
 PACKAGE = 'bindings/python/kozhvadi/_builtins.py'
-ROW = re.compile(r'Builtin \{\s*name: "(\w+)",\s*operand: Operand::(\w+),\s*options: &\[(.*?)\n    \],', re.S)
+ROW = re.compile(r'Builtin \{\s*name: "(\w+)",\s*operand: Operand::(\w+),\s*options: &\[(.*?)\n {4,8}\],'
+                 r'\s*styles: &\[(.*?)\],\s*components: &\[(.*?)\],', re.S)
 OPTION = re.compile(r'FunctionOption \{\s*name: "(\w+)",\s*takes: Takes::(\w+)(?:\(&\[(.*?)\]\))?,\s*\}', re.S)
+TEXT = re.compile(r'"(.*?)"')
 TAKES = {'Number': 'a number', 'AnyText': 'any text'}
-OPERANDS = {'Number': 'a number'}
+OPERANDS = {'Number': 'a number', 'Date': 'a date'}
 
 
 def of_code(root):
     """The rows of the library."""
-    for name, operand, options in ROW.findall((root / CODE).read_text()):
-        taken = {option: tuple(re.findall(r'"(.*?)"', texts)) if takes == 'OneOf' else TAKES[takes]
+    for name, operand, options, styles, components in ROW.findall((root / CODE).read_text()):
+        taken = {option: tuple(TEXT.findall(texts)) if takes == 'OneOf' else TAKES[takes]
                  for option, takes, texts in OPTION.findall(options)}
-        yield name, OPERANDS[operand], [*taken.items()]
+        yield name, OPERANDS[operand], [*taken.items()], TEXT.findall(styles), TEXT.findall(components)
 
 
 def of_package(root):
@@ -24,7 +26,8 @@ def of_package(root):
     module = importlib.util.module_from_spec(spec)
     spec.loader.exec_module(module)
     for name, row in module.BUILTINS.items():
-        yield name, row.operand, [(option, known.takes) for option, known in row.options.items()]
+        options = [(option, known.takes) for option, known in row.options.items()]
+        yield name, row.operand, options, [*row.styles], [*row.components]
 
 
 def differences(root):

@@ -1,7 +1,8 @@
 //! Rows of the tables, and how one is found.
 ghost use Rattle.std.specs.Prelude.{◌≡◌};
 ghost use Rattle.std.specs.Prelude.{slice_get};
-ghost use Rattle.fluent_date_tables.specs.Tables.{first_of, found, list_at, nows, or_else, tags_of};
+ghost use Rattle.fluent_plurals.specs.Lookup.{begins_with_tag, folded};
+ghost use Rattle.fluent_date_tables.specs.Tables.{first_of, found, list_at, nows, tags_of};
 ghost use Rattle.fluent_date_tables.specs.Skeletons.{skeletons};
 ghost use Rattle.fluent_date_tables.specs.Rows.{rows};
 
@@ -156,19 +157,34 @@ pub(crate) fn first_fitting(tags: &[Tagged], text: &[u8]) -> Option<u16>
     ensures { result ≡ first_of (tags_of tags.now) text.now }
 {
     for tagged in tags {
-        if begins_with_tag(tagged.tag.as_bytes(), text) {
+        if begins_with(tagged.tag.as_bytes(), text) {
             return Some(tagged.row);
         }
     }
     None
 }
 
-/// The first of two that is there.
-pub(crate) fn first_entry(first: Option<u16>, second: Option<u16>) -> Option<u16>
-    ensures { result ≡ or_else first second }
+/// Whether a text begins with a tag. Most tags of a table differ in their first byte, which is
+/// compared before the others.
+fn begins_with(tag: &[u8], text: &[u8]) -> bool
+    ensures { result ≡ begins_with_tag tag.now text.now }
 {
-    match first {
-        Some(row) => Some(row),
-        None => second,
+    match tag {
+        [] => begins_with_tag(tag, text),
+        [byte, tag @ ..] => match text {
+            [] => false,
+            [other, text @ ..] => *byte == folded(*other) && begins_with_tag(tag, text),
+        },
+    }
+}
+
+/// A byte of a text as tags have it: letters are small, and `_` is `-`.
+fn folded(byte: u8) -> u8
+    ensures { result ≡ folded byte }
+{
+    if byte == b'_' {
+        b'-'
+    } else {
+        byte.to_ascii_lowercase()
     }
 }

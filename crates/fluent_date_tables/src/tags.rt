@@ -4,7 +4,7 @@ ghost use Rattle.std.specs.Prelude.{◌≡◌};
 ghost use Rattle.fluent_date_tables.specs.Tags.{tags_1, tags_2, tags_3, tags_4, tags_5, row_for};
 ghost use Rattle.fluent_date_tables.specs.Tables.{first_of};
 
-use crate::tables::{Tagged, first_entry, first_fitting};
+use crate::tables::{Tagged, first_fitting};
 
 /// Tags and numbers.
 macro_rules! tags {
@@ -17,13 +17,19 @@ macro_rules! tags {
 pub fn row_for(tag: &[u8]) -> Option<u16>
     ensures { result ≡ row_for tag.now }
 {
-    first_entry(
-        row_in_1(tag),
-        first_entry(
-            row_in_2(tag),
-            first_entry(row_in_3(tag), first_entry(row_in_4(tag), row_in_5(tag))),
-        ),
-    )
+    if let Some(row) = row_in_1(tag) {
+        return Some(row);
+    }
+    if let Some(row) = row_in_2(tag) {
+        return Some(row);
+    }
+    if let Some(row) = row_in_3(tag) {
+        return Some(row);
+    }
+    if let Some(row) = row_in_4(tag) {
+        return Some(row);
+    }
+    row_in_5(tag)
 }
 
 static TAGS_1: [Tagged; 120] = tags![

@@ -7,3 +7,6 @@ pub mod Writing
 pub mod Written
 pub mod Lookup
 pub mod Laws
+pub mod Called
+pub mod Shown
+pub mod Equivalent

@@ -83,10 +83,20 @@ an_escape_in_a_named_argument : Reports [] (file (codes "a.ftl") (codes "a = { N
 unfolding computing_findings file Reports
 an_escape_in_a_named_argument = refl
 
-options_of_number : Reports (codes "DATETIME" ∷ []) (file (codes "a.ftl") (codes "a = { NUMBER($n, type: \"ordinal\", style: \"percent\", currency: \"EUR\", currencyDisplay: \"code\", useGrouping: \"false\", maximumFractionDigits: 2) } { DATETIME($d, x: 1) }\n") ∷ [])
+options_of_number : Reports (codes "PLATFORM" ∷ []) (file (codes "a.ftl") (codes "a = { NUMBER($n, type: \"ordinal\", style: \"percent\", currency: \"EUR\", currencyDisplay: \"code\", useGrouping: \"false\", maximumFractionDigits: 2) } { PLATFORM($d, x: 1) }\n") ∷ [])
     []
 unfolding computing_findings file Reports
 options_of_number = refl
+
+options_of_dates : Reports (codes "DATETIME" ∷ []) (file (codes "a.ftl") (codes "a = { DATETIME($d, dateStyle: \"long\", timeStyle: \"short\", hour12: \"false\") } { DATETIME($d, month: \"long\", fractionalSecondDigits: 3) }\n") ∷ [])
+    []
+unfolding computing_findings file Reports
+options_of_dates = refl
+
+components_next_to_a_style : Reports (codes "DATETIME" ∷ []) (file (codes "a.ftl") (codes "a = { DATETIME($d, month: \"long\", timeStyle: \"big\") }\n") ∷ [])
+    (codes "a.ftl:1:7: warning: a: the option `timeStyle` has no value `big` [unknown-option]\n1 | a = { DATETIME($d, month: \"long\", timeStyle: \"big\") }\n  |       ^\na.ftl:1:7: warning: a: the option `month` doesn't count next to `timeStyle` [unknown-option]\n1 | a = { DATETIME($d, month: \"long\", timeStyle: \"big\") }\n  |       ^\n")
+unfolding computing_findings file Reports
+components_next_to_a_style = refl
 
 options_that_number_lacks : Reports [] (file (codes "a.ftl") (codes "a = { NUMBER($n, digits: 2) }\nb = { NUMBER($n, style: \"percnt\") }\nc = { NUMBER($n, minimumFractionDigits: \"2\") }\nd = { NUMBER($n, style: 1) }\n") ∷ [])
     (codes "a.ftl:1:7: warning: a: `NUMBER` has no option `digits` [unknown-option]\n1 | a = { NUMBER($n, digits: 2) }\n  |       ^\na.ftl:2:7: warning: b: the option `style` has no value `percnt` [unknown-option]\n2 | b = { NUMBER($n, style: \"percnt\") }\n  |       ^\n  = did you mean `percent`?\na.ftl:3:7: warning: c: the option `minimumFractionDigits` takes a number, without quotes [unknown-option]\n3 | c = { NUMBER($n, minimumFractionDigits: \"2\") }\n  |       ^\na.ftl:4:7: warning: d: the option `style` takes a text, in quotes [unknown-option]\n4 | d = { NUMBER($n, style: 1) }\n  |       ^\n")

@@ -4,6 +4,7 @@ mod SyntaxRows
 mod FlawRows
 mod CatalogRows
 mod NumberRow
+mod DateRow
 mod CategoryRows
 mod NearNameRows
 mod ComparisonRows

@@ -19,11 +19,15 @@ pub record FunctionOption : Type 0 where
 -- what the first argument of a function has to be
 pub data Operand : Type 0 where
   number : Operand
+  date : Operand
 
+-- Next to one of its styles a component doesn't count.
 pub record Builtin : Type 0 where
   pub name : Text
   pub operand : Operand
   pub options : List FunctionOption
+  pub styles : List Text
+  pub components : List Text
 
 -- ---- the table
 
@@ -47,10 +51,51 @@ number_row = record {
       o (codes "currency") any_text ∷
       o (codes "currencyDisplay") (one_of (codes "symbol" ∷ codes "code" ∷ codes "name" ∷ [])) ∷
       [];
+  styles = [];
+  components = [];
+}
+
+-- the styles of a date, the widths of a name, and those of a number
+abbrev pub date_styles : List Text
+date_styles = codes "full" ∷ codes "long" ∷ codes "medium" ∷ codes "short" ∷ []
+
+abbrev pub name_widths : List Text
+name_widths = codes "narrow" ∷ codes "short" ∷ codes "long" ∷ []
+
+abbrev pub digit_widths : List Text
+digit_widths = codes "numeric" ∷ codes "2-digit" ∷ []
+
+-- Its options are those that `merge` of dates reads, with the texts that it has a name for.
+abbrev pub date_row : Builtin
+date_row = record {
+  name = codes "DATETIME";
+  operand = date;
+  options =
+      o (codes "dateStyle") (one_of date_styles) ∷
+      o (codes "timeStyle") (one_of date_styles) ∷
+      o (codes "hour12") (one_of (codes "true" ∷ codes "false" ∷ [])) ∷
+      o (codes "hourCycle") (one_of (codes "h11" ∷ codes "h12" ∷ codes "h23" ∷ codes "h24" ∷ [])) ∷
+      o (codes "weekday") (one_of name_widths) ∷
+      o (codes "era") (one_of name_widths) ∷
+      o (codes "year") (one_of digit_widths) ∷
+      o (codes "month") (one_of (codes "numeric" ∷ codes "2-digit" ∷ name_widths)) ∷
+      o (codes "day") (one_of digit_widths) ∷
+      o (codes "dayPeriod") (one_of name_widths) ∷
+      o (codes "hour") (one_of digit_widths) ∷
+      o (codes "minute") (one_of digit_widths) ∷
+      o (codes "second") (one_of digit_widths) ∷
+      o (codes "fractionalSecondDigits") a_number ∷
+      o (codes "timeZoneName") (one_of (codes "short" ∷ codes "long" ∷ codes "shortOffset" ∷ codes "longOffset" ∷ codes "shortGeneric" ∷ codes "longGeneric" ∷ [])) ∷
+      [];
+  styles = codes "dateStyle" ∷ codes "timeStyle" ∷ [];
+  components =
+      codes "weekday" ∷ codes "era" ∷ codes "year" ∷ codes "month" ∷ codes "day" ∷ codes "dayPeriod" ∷ codes "hour" ∷ codes "minute" ∷
+      codes "second" ∷ codes "fractionalSecondDigits" ∷ codes "timeZoneName" ∷
+      [];
 }
 
 abbrev pub builtins : List Builtin
-builtins = number_row ∷ []
+builtins = number_row ∷ date_row ∷ []
 
 -- ---- looking up
 
@@ -69,6 +114,7 @@ has_option row name = is_some (taken_by row.options name)
 
 abbrev pub takes_number : Operand → Bool
 takes_number number = true
+takes_number date = false
 
 abbrev pub is_of_number : Option Builtin → Bool
 is_of_number None = false

@@ -21,6 +21,7 @@ takes_view (takes.OneOf values) = b.one_of (texts values.now)
 
 abbrev pub operand_view : Operand → b.Operand
 operand_view operand.Number = b.number
+operand_view operand.Date = b.date
 
 abbrev pub option_view : FunctionOption → b.FunctionOption
 option_view o = record { name = o.name.now; takes = takes_view o.takes }
@@ -34,6 +35,8 @@ builtin_view row = record {
   name = row.name.now;
   operand = operand_view row.operand;
   options = option_views row.options.now;
+  styles = texts row.styles.now;
+  components = texts row.components.now;
 }
 
 abbrev pub builtin_views : List Builtin → List b.Builtin

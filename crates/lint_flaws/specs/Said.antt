@@ -2,14 +2,14 @@
 use Rattle.std.specs.Prelude.{◌≡◌, List, ◌++◌, map, Option, option_map, String, string_bytes, Vec}
 use Rattle.std.specs.Global.{Global}
 use Rattle.std.specs.Option.{option_to_list}
-use Rattle.fluent_grammar.specs.Tree.{Inline}
+use Rattle.fluent_grammar.specs.Tree.{Inline, Nameds}
 use Rattle.fluent_grammar.specs.Words.{Text}
 use Rattle.fluent_ids.specs.IdsView.{ids_view}
 use Rattle.fluent_ids.specs.declared.ids.FluentIds.{FluentIds}
 use Rattle.fluent_meaning.specs.Ids.{Ids, find}
 use Rattle.fluent_plurals.specs.declared.plurals.LanguagePlurals.{LanguagePlurals}
 use Rattle.lint_findings.specs.EntryFindings.{category_remark, flaw_remark, node_categories, node_flaws, node_remarks}
-use Rattle.lint_findings.specs.Misuses.{Misuse, argument_misuse, misuse_remark}
+use Rattle.lint_findings.specs.Misuses.{Misuse, argument_misuse, misuse_remark, misuses_of, overruled_by, overruled_misuses}
 use Rattle.lint_findings.specs.Finding as f
 use Rattle.lint_findings.specs.FlawHints.{flaw_hint, message_hint}
 use Rattle.lint_findings.specs.FlawWords.{attribute_words}
@@ -54,6 +54,22 @@ IsOnArgument row name e found = IsOnMisuse (argument_misuse (builtin_view row) n
 
 abbrev pub AddsOnArgument : Builtin → Text → Inline → Vec Remark Global → Vec Remark Global → Type 0
 AddsOnArgument row name e old new = AddsMisuse (argument_misuse (builtin_view row) name e) old new
+
+-- the remark on an argument of this name next to this style in a call of the function of this row, if there is one
+abbrev pub IsOnComponent : Builtin → Text → Text → Option Remark → Type 0
+IsOnComponent row style name found = (e : Inline) → IsOnMisuse (overruled_by (builtin_view row) style name e) found
+
+-- that on an argument of this name next to this style is added, if the function of this row makes nothing of it there
+abbrev pub AddsComponent : Builtin → Text → Text → Vec Remark Global → Vec Remark Global → Type 0
+AddsComponent row style name old new = (e : Inline) → AddsMisuse (overruled_by (builtin_view row) style name e) old new
+
+-- those on the arguments that don't count next to this style are added
+abbrev pub AddsOverruled : Builtin → Text → Nameds → Vec Remark Global → Vec Remark Global → Type 0
+AddsOverruled row style ns old new = AddsMisuses (misuses_of (overruled_by (builtin_view row) style) ns) old new
+
+-- those on the arguments that don't count next to others are added
+abbrev pub AddsBeside : Builtin → Nameds → Vec Remark Global → Vec Remark Global → Type 0
+AddsBeside row ns old new = AddsMisuses (overruled_misuses (builtin_view row) ns) old new
 
 -- those on the categories that a node lacks are added
 abbrev pub AddsCategories : Option LanguagePlurals → Node → Vec Remark Global → Vec Remark Global → Type 0

@@ -24,6 +24,8 @@ pub enum Takes {
 pub enum Operand {
     /// A number.
     Number,
+    /// A date.
+    Date,
 }
 
 /// An option: a named argument that a function makes something of.
@@ -44,56 +46,151 @@ pub struct Builtin {
     pub operand: Operand,
     /// Its options.
     pub options: &'static [FunctionOption],
+    /// The options that stand for several others.
+    pub styles: &'static [&'static str],
+    /// The options that don't count next to one of its styles.
+    pub components: &'static [&'static str],
 }
 
 /// The table. `bindings/python/kozhvadi/_builtins.py` has the same rows, which
 /// `tools/house/check.py` compares.
-static BUILTINS: [Builtin; 1] = [Builtin {
-    name: "NUMBER",
-    operand: Operand::Number,
-    options: &[
-        FunctionOption {
-            name: "type",
-            takes: Takes::OneOf(&["ordinal", "cardinal"]),
-        },
-        FunctionOption {
-            name: "minimumFractionDigits",
-            takes: Takes::Number,
-        },
-        FunctionOption {
-            name: "maximumFractionDigits",
-            takes: Takes::Number,
-        },
-        FunctionOption {
-            name: "minimumIntegerDigits",
-            takes: Takes::Number,
-        },
-        FunctionOption {
-            name: "minimumSignificantDigits",
-            takes: Takes::Number,
-        },
-        FunctionOption {
-            name: "maximumSignificantDigits",
-            takes: Takes::Number,
-        },
-        FunctionOption {
-            name: "useGrouping",
-            takes: Takes::OneOf(&["true", "false"]),
-        },
-        FunctionOption {
-            name: "style",
-            takes: Takes::OneOf(&["decimal", "percent", "currency"]),
-        },
-        FunctionOption {
-            name: "currency",
-            takes: Takes::AnyText,
-        },
-        FunctionOption {
-            name: "currencyDisplay",
-            takes: Takes::OneOf(&["symbol", "code", "name"]),
-        },
-    ],
-}];
+static BUILTINS: [Builtin; 2] = [
+    Builtin {
+        name: "NUMBER",
+        operand: Operand::Number,
+        options: &[
+            FunctionOption {
+                name: "type",
+                takes: Takes::OneOf(&["ordinal", "cardinal"]),
+            },
+            FunctionOption {
+                name: "minimumFractionDigits",
+                takes: Takes::Number,
+            },
+            FunctionOption {
+                name: "maximumFractionDigits",
+                takes: Takes::Number,
+            },
+            FunctionOption {
+                name: "minimumIntegerDigits",
+                takes: Takes::Number,
+            },
+            FunctionOption {
+                name: "minimumSignificantDigits",
+                takes: Takes::Number,
+            },
+            FunctionOption {
+                name: "maximumSignificantDigits",
+                takes: Takes::Number,
+            },
+            FunctionOption {
+                name: "useGrouping",
+                takes: Takes::OneOf(&["true", "false"]),
+            },
+            FunctionOption {
+                name: "style",
+                takes: Takes::OneOf(&["decimal", "percent", "currency"]),
+            },
+            FunctionOption {
+                name: "currency",
+                takes: Takes::AnyText,
+            },
+            FunctionOption {
+                name: "currencyDisplay",
+                takes: Takes::OneOf(&["symbol", "code", "name"]),
+            },
+        ],
+        styles: &[],
+        components: &[],
+    },
+    Builtin {
+        name: "DATETIME",
+        operand: Operand::Date,
+        options: &[
+            FunctionOption {
+                name: "dateStyle",
+                takes: Takes::OneOf(&["full", "long", "medium", "short"]),
+            },
+            FunctionOption {
+                name: "timeStyle",
+                takes: Takes::OneOf(&["full", "long", "medium", "short"]),
+            },
+            FunctionOption {
+                name: "hour12",
+                takes: Takes::OneOf(&["true", "false"]),
+            },
+            FunctionOption {
+                name: "hourCycle",
+                takes: Takes::OneOf(&["h11", "h12", "h23", "h24"]),
+            },
+            FunctionOption {
+                name: "weekday",
+                takes: Takes::OneOf(&["narrow", "short", "long"]),
+            },
+            FunctionOption {
+                name: "era",
+                takes: Takes::OneOf(&["narrow", "short", "long"]),
+            },
+            FunctionOption {
+                name: "year",
+                takes: Takes::OneOf(&["numeric", "2-digit"]),
+            },
+            FunctionOption {
+                name: "month",
+                takes: Takes::OneOf(&["numeric", "2-digit", "narrow", "short", "long"]),
+            },
+            FunctionOption {
+                name: "day",
+                takes: Takes::OneOf(&["numeric", "2-digit"]),
+            },
+            FunctionOption {
+                name: "dayPeriod",
+                takes: Takes::OneOf(&["narrow", "short", "long"]),
+            },
+            FunctionOption {
+                name: "hour",
+                takes: Takes::OneOf(&["numeric", "2-digit"]),
+            },
+            FunctionOption {
+                name: "minute",
+                takes: Takes::OneOf(&["numeric", "2-digit"]),
+            },
+            FunctionOption {
+                name: "second",
+                takes: Takes::OneOf(&["numeric", "2-digit"]),
+            },
+            FunctionOption {
+                name: "fractionalSecondDigits",
+                takes: Takes::Number,
+            },
+            FunctionOption {
+                name: "timeZoneName",
+                takes: Takes::OneOf(&[
+                    "short",
+                    "long",
+                    "shortOffset",
+                    "longOffset",
+                    "shortGeneric",
+                    "longGeneric",
+                ]),
+            },
+        ],
+        styles: &["dateStyle", "timeStyle"],
+        components: &[
+            "weekday",
+            "era",
+            "year",
+            "month",
+            "day",
+            "dayPeriod",
+            "hour",
+            "minute",
+            "second",
+            "fractionalSecondDigits",
+            "timeZoneName",
+        ],
+    },
+];
 
 /// The function of this name, if it comes with the library.
 pub fn builtin_named(name: &str) -> Option<&'static Builtin>

@@ -1,7 +1,7 @@
 //! Named arguments that a function of the library makes nothing of, or not what was meant.
 #![tactic(auto)]
 
-ghost use Rattle.std.specs.Prelude.{◌≡◌, IfOk, OnOk, codes, string_bytes};
+ghost use Rattle.std.specs.Prelude.{◌≡◌, IfOk, OnOk, codes, option_copied, string_bytes};
 ghost use Rattle.fluent_ast.specs.Borrowed.{inline_of, named_of};
 ghost use Rattle.fluent_grammar.specs.Escapes.{unescaped};
 ghost use Rattle.fluent_grammar.specs.Words.{is_among};
@@ -10,7 +10,7 @@ ghost use Rattle.lint_findings.specs.EntryFindings as e;
 ghost use Rattle.lint_findings.specs.Finding as f;
 ghost use Rattle.lint_findings.specs.Misuses as m;
 ghost use Rattle.lint_flaws.specs.BuiltinView.{builtin_view, takes_view, texts};
-ghost use Rattle.lint_flaws.specs.Said.{AddsMisuses, AddsOnArgument, IsOnArgument, IsOnMisuse};
+ghost use Rattle.lint_flaws.specs.Said.{AddsBeside, AddsComponent, AddsMisuses, AddsOnArgument, AddsOverruled, IsOnArgument, IsOnComponent, IsOnMisuse};
 ghost use Rattle.lint_nodes.specs.NodeView.{node_view};
 
 use crate::builtins::{Builtin, Takes, builtin_named};
@@ -52,8 +52,90 @@ fn push_call(
     ensures { OnOk result (AddsMisuses (m.call_misuses id.now (named_of named.now)) found.old found.new) }
 {
     match builtin_named(id) {
-        Some(row) => push_named(alloc, row, named, found),
+        Some(row) => {
+            push_named(alloc, row, named, found)?;
+            push_beside(alloc, row, named, found)
+        }
         None => Ok(()),
+    }
+}
+
+/// Adds what is said of the arguments that don't count next to others of the call.
+fn push_beside(
+    alloc: Global,
+    row: &Builtin,
+    named: &[NamedArgument<&str>],
+    found: &mut Vec<Remark>,
+) -> Result<(), AllocError>
+    ensures { OnOk result (AddsBeside row.now (named_of named.now) found.old found.new) }
+{
+    match first_named(named, row.styles) {
+        Some(style) => push_overruled(alloc, row, style, named, found),
+        None => Ok(()),
+    }
+}
+
+/// The name of the first argument that has one of these names.
+fn first_named<'s>(named: &[NamedArgument<&'s str>], names: &[&str]) -> Option<&'s str>
+    ensures { option_copied result ≡ m.first_named (named_of named.now) (texts names.now) }
+{
+    for argument in named {
+        if is_value(argument.name.name, names) {
+            return Some(argument.name.name);
+        }
+    }
+    None
+}
+
+/// Adds what is said of the arguments that don't count next to this style.
+fn push_overruled(
+    alloc: Global,
+    row: &Builtin,
+    style: &str,
+    named: &[NamedArgument<&str>],
+    found: &mut Vec<Remark>,
+) -> Result<(), AllocError>
+    ensures { OnOk result (AddsOverruled row.now style.now (named_of named.now) found.old found.new) }
+{
+    for argument in named {
+        push_component(alloc, row, style, argument.name.name, found)?;
+    }
+    Ok(())
+}
+
+/// Adds what is said of an argument of this name next to this style.
+fn push_component(
+    alloc: Global,
+    row: &Builtin,
+    style: &str,
+    name: &str,
+    found: &mut Vec<Remark>,
+) -> Result<(), AllocError>
+    ensures { OnOk result (AddsComponent row.now style.now name.now found.old found.new) }
+{
+    match component_misuse(alloc, row, style, name)? {
+        Some(misuse) => {
+            found.push(misuse)?;
+            Ok(())
+        }
+        None => Ok(()),
+    }
+}
+
+/// The remark on an argument of this name next to this style, if it doesn't count there.
+fn component_misuse(
+    alloc: Global,
+    row: &Builtin,
+    style: &str,
+    name: &str,
+) -> Result<Option<Remark>, AllocError>
+    ensures { IfOk result (IsOnComponent row.now style.now name.now) }
+{
+    if is_value(name, row.components) {
+        let text = format!(in alloc; "the option `{name}` doesn't count next to `{style}`")?;
+        Ok(Some(misuse(text)))
+    } else {
+        Ok(None)
     }
 }
 
