@@ -41,6 +41,10 @@ static inline const char *fluent_status_text(uint32_t status) {
         return "the source has no tidy text";
     case FLUENT_CALL:
         return "a call of a function has no answer yet";
+    case FLUENT_NOT_JSON:
+        return "the text isn't JSON, or is nested too deep";
+    case FLUENT_NOT_TREE:
+        return "no tree has the value of the JSON text";
     default:
         return "no call returns this number";
     }
@@ -252,6 +256,11 @@ static inline uint32_t fluent_outline_of(const char *source, struct FluentText *
 /* fluent_occurrences. */
 static inline uint32_t fluent_occurrences_of(const char *source, struct FluentText *made) {
     return fluent_occurrences(fluent_bytes(source), fluent_len(source), made);
+}
+
+/* fluent_write_tree. */
+static inline uint32_t fluent_write_tree_of(const char *json, bool with_junk, struct FluentText *made) {
+    return fluent_write_tree(fluent_bytes(json), fluent_len(json), with_junk, made);
 }
 
 /* fluent_nodes. */

@@ -68,6 +68,10 @@ uint32_t fluent_version(void);
 #define FLUENT_NOT_TIDY 11
 /* The message calls a function, and the call has no answer yet: fluent_bundle_call has put its text into `call`. */
 #define FLUENT_CALL 12
+/* The text isn't JSON, is nested more than 127 deep, or has a number past the range of a double. */
+#define FLUENT_NOT_JSON 13
+/* The JSON text has a value that no tree has. */
+#define FLUENT_NOT_TREE 14
 
 struct FluentCounts {
     size_t messages FLUENT_ZERO;
@@ -119,6 +123,17 @@ uint32_t fluent_write(const uint8_t *text, size_t len, bool with_junk, struct Fl
 /* Reads a source and writes its tree, junk included, as JSON: compact, each object's keys in the order of their bytes.
  * It returns the numbers of fluent_parse. */
 uint32_t fluent_write_json(const uint8_t *text, size_t len, struct FluentText *made);
+
+/* Writes a tree as the text of a source. The tree is given as JSON, as fluent_write_json writes it, or as your program made or
+ * changed it: docs/reference/json.md has the objects and their keys. The order of keys and the blanks between them don't
+ * matter. Junk is written, or left out.
+ *
+ * It returns FLUENT_READ; FLUENT_NOT_JSON; FLUENT_NOT_TREE if a key is missing or unknown, or a value is of another kind than
+ * it has to be; FLUENT_NOT_UTF8; or FLUENT_NO_MEMORY.
+ *
+ * Names and texts are written as they are: a text with a brace is read as something else. To know that a source is read as
+ * your tree, compare that with the JSON that fluent_write_json makes of it. */
+uint32_t fluent_write_tree(const uint8_t *json, size_t len, bool with_junk, struct FluentText *made);
 
 /* Says where the symbols of a source are: a line of JSON for each definition of a message, a term or an attribute, and for
  * each reference to one, to a variable or to a function, in the order of their offsets. docs/reference/occurrences.md has
@@ -469,6 +484,30 @@ uint32_t fluent_bundle_call(
     struct FluentText *text,
     struct FluentText *errors,
     struct FluentText *call
+);
+
+/* Lists calls that have no answer and that a message meets whatever any of them gives: fluent_bundle_call, but `calls` gets the
+ * text of each, ended by a line feed. The text of a call has none in it.
+ *
+ * fluent_bundle_call gives the first of them alone. A program that answers all of them before it makes that call again needs
+ * fewer rounds. They are those of the message's own placeables, in their order; one that it has twice is listed twice, and has
+ * to be answered once. A call among whose arguments is one without an answer isn't listed yet. The list ends at the first call of
+ * a placeable that holds anything but literals, variables and calls of these, such as a select or a term: what comes after it
+ * may depend on its answer.
+ *
+ * It returns FLUENT_READ, also if the text is empty, since each call that is met has an answer, or the bundle has no functions.
+ * Else it returns the numbers of fluent_bundle_call, and `calls` is unchanged. */
+uint32_t fluent_bundle_calls(
+    struct FluentBundle *bundle,
+    const uint8_t *id,
+    size_t id_len,
+    const uint8_t *attribute,
+    size_t attribute_len,
+    const struct FluentArgument *arguments,
+    size_t argument_count,
+    const struct FluentArgument *answers,
+    size_t answer_count,
+    struct FluentText *calls
 );
 
 /* Whether a bundle has a message's value, or an attribute of a name. It returns FLUENT_READ if it has, and else

@@ -2,6 +2,7 @@
 use Rattle.std.specs.Prelude.{◌≡◌, ◌≢◌, ◌⊎◌, ℕ, true, List, [], ◌∷◌, Option, Some, None, IsNone, IsSome, IsSomeAnd, map}
 use Rattle.fluent_answers.specs.Answers.{pattern_asked, reply_to}
 use Rattle.fluent_calls.specs.Functions.{Table}
+use Rattle.fluent_calls.specs.Gathering.{AreGathered}
 use Rattle.fluent_grammar.specs.Tree.{Elements, Message}
 use Rattle.fluent_grammar.specs.Words.{Text}
 use Rattle.fluent_ids.specs.Found.{message_in}
@@ -40,7 +41,7 @@ pub record MakesCalling (options : FluentBundleOptions) (sources functions : Lis
   pub utf8 : IsOneOf status (FLUENT_READ ∷ FLUENT_UNKNOWN_LOCALE ∷ []) → AreUtf8 functions × AreUtf8 sources
   pub unknown_locale : status ≡ FLUENT_UNKNOWN_LOCALE → plurals_in options.locale.now ≡ None
 
--- answers to calls, by the calls' texts
+-- arguments by their names, and answers to calls by the calls' texts
 abbrev pub answers_of : List FluentArgument → Table
 answers_of answers = all_set [] (map pair_of answers)
 
@@ -89,6 +90,18 @@ pub record HoldsMissing (answers : List FluentArgument) (made : FluentText) : Ty
   pub call : Text
   pub held : Holds made call
   pub missing : argument call (answers_of answers) ≡ None
+
+-- lines of the calls that are gathered of what is asked for, and none where there are no functions
+abbrev pub AreCallsBy : Option (Environment (Unit {0}) ℕ) → Text → Option Text → List (Text × Value (Unit {0})) → Table → Text → Type 0
+AreCallsBy None id attribute args table calls = calls ≡ []
+AreCallsBy (Some calling) id attribute args table calls =
+    IsSomeAnd (pattern_asked attribute (calling.find id)) (λ elements. AreGathered calling args table elements calls)
+
+-- a text holds such lines
+pub record HoldsCalls (bundle : FluentBundle) (id attribute : Text) (arguments answers : List FluentArgument) (made : FluentText) : Type 0 where
+  pub calls : Text
+  pub held : Holds made calls
+  pub gathered : AreCallsBy (calling_in bundle answers) id (attribute_in attribute) (answers_of arguments) (answers_of answers) calls
 
 -- what a call returns whose arguments or answers aren't taken
 abbrev pub refused_status : ArgumentRefusal → ℕ

@@ -18,3 +18,4 @@ pub mod Calling
 pub mod Statuses
 pub mod Dates
 pub mod Tidying
+pub mod Trees

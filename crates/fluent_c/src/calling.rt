@@ -131,7 +131,7 @@ pub extern "C" fn fluent_bundle_call<'a>(
 }
 
 /// What a call returns whose arguments or answers aren't taken.
-fn status_of(refusal: ArgumentRefusal) -> u32
+pub(crate) fn status_of(refusal: ArgumentRefusal) -> u32
     ensures { result ≡ refused_status refusal }
 {
     match refusal {

@@ -1,7 +1,7 @@
 //! Fluent for programs in C and Rust: the texts of messages, from a bundle that is kept
 //! ([`fluent_bundle_new`]) or from sources, line by line ([`fluent_answer`]); which of a program's
 //! languages suit a user ([`fluent_negotiate`]); what a source has, in numbers and by names; and
-//! its tree as text, written back or as JSON.
+//! its tree as text, written back or as JSON, which is taken back, too.
 //!
 //! No call takes much of the machine's stack: a source or an answer that nests too deep for 1.5 MB
 //! is refused as out of memory, so a thread with a stack of 2 MB can make each call. A bundle made
@@ -23,6 +23,7 @@ mod dates;
 mod files;
 mod filling;
 mod formatting;
+mod gathering;
 mod languages;
 mod linting;
 mod listing;
@@ -35,6 +36,7 @@ mod outline;
 mod text;
 mod threads;
 mod tidying;
+mod trees;
 mod utf8;
 mod variables;
 mod version;
@@ -52,6 +54,7 @@ pub use dates::{FluentDate, fluent_write_date};
 pub use files::FluentFile;
 pub use fluent_kept::FluentBundle;
 pub use formatting::fluent_bundle_format;
+pub use gathering::fluent_bundle_calls;
 pub use languages::fluent_negotiate;
 pub use linting::{FluentLintOptions, fluent_lint};
 pub use listing::{fluent_bundle_attributes, fluent_bundle_messages};
@@ -63,6 +66,7 @@ pub use outline::fluent_outline;
 pub use text::{FluentText, fluent_free_text};
 pub use threads::texts_are_send;
 pub use tidying::{FluentPlace, fluent_tidy};
+pub use trees::fluent_write_tree;
 pub use variables::fluent_bundle_variables;
 pub use version::fluent_version;
 pub use writing::{fluent_write, fluent_write_json};
@@ -101,6 +105,11 @@ pub const FLUENT_NOT_TIDY: u32 = 11;
 /// What a call returns that met a call of a function which has no answer yet: the text of that call
 /// is there.
 pub const FLUENT_CALL: u32 = 12;
+/// What a call returns whose JSON text isn't JSON, is nested more than 127 deep, or has a number
+/// past the range of a 64-bit float.
+pub const FLUENT_NOT_JSON: u32 = 13;
+/// What a call returns whose JSON text has a value that no tree has.
+pub const FLUENT_NOT_TREE: u32 = 14;
 /// The kind of an argument that is a text.
 pub const FLUENT_TEXT: u32 = 0;
 /// The kind of an argument that is a number, written as a decimal.

@@ -147,7 +147,7 @@ fn put_damage(alloc: Global, source: &str, errors: &[ParserError], place: &mut F
 }
 
 /// Puts a text in the place of another, which is freed.
-fn put_text(alloc: Global, text: String, made: &mut FluentText) -> u32
+pub(crate) fn put_text(alloc: Global, text: String, made: &mut FluentText) -> u32
     ensures decided { IsOneOf result (FLUENT_READ ∷ FLUENT_NO_MEMORY ∷ []) }
     ensures put { result ≡ FLUENT_READ → Holds made.new (string_bytes text) }
     ensures unchanged { result ≢ FLUENT_READ → made.new ≡ made.old }

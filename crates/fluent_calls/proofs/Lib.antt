@@ -1,3 +1,4 @@
 mod Texts
 mod Rows
 mod Adding
+pub mod Gathered

@@ -1,19 +1,23 @@
 -- What formatting a message that may call functions comes to.
-use Rattle.std.specs.Prelude.{◌≡◌, ℕ, Option, None, Some, IsNone, IsSomeAnd, option_copied, string_bytes}
+use Rattle.std.specs.Prelude.{◌≡◌, ℕ, Option, None, Some, IsNone, IsSomeAnd, String, option_copied, string_bytes}
+use Rattle.std.specs.declared.alloc.Global.{Global}
 use denote.Ref.{Bor}
 use Rattle.fluent_answers.specs.Answers.{pattern_asked}
 use Rattle.fluent_ast.specs.declared.Pattern.{Pattern}
+use Rattle.fluent_grammar.specs.Tree.{Elements}
 use Rattle.fluent_grammar.specs.Words.{Text}
 use Rattle.fluent_meaning.specs.Environment.{Environment}
+use Rattle.fluent_meaning.specs.Ids.{find}
 use Rattle.fluent_meaning.specs.Steps.{Done}
 use Rattle.fluent_meaning.specs.Substitution.{answer_written}
-use Rattle.fluent_run.specs.DeskView.{answer_in, arguments_view, environment_by}
+use Rattle.fluent_run.specs.DeskView.{answer_in, arguments_view, desk_ids, environment_by}
 use Rattle.fluent_run.specs.ReplyView.{IsDone}
 use Rattle.fluent_value.specs.Args.{argument}
 use Rattle.fluent_value.specs.declared.args.FluentArgs.{FluentArgs}
 use Rattle.fluent_value.specs.declared.custom.NoCustom.{NoCustom}
 use Rattle.fluent_value.specs.declared.plurals.MemoizerKind.{Ghosts as KindGhosts}
 use Rattle.fluent_calls.specs.CallsView.{names_of}
+use Rattle.fluent_calls.specs.Gathering.{AreGathered}
 use Rattle.fluent_calls.specs.Functions.{Functions, Table, answered_at}
 use Rattle.fluent_calls.specs.declared.desk.FunctionDesk.{FunctionDesk}
 use Rattle.fluent_calls.specs.declared.desk.Outcome.{Outcome}
@@ -50,3 +54,15 @@ Formats kind otherwise made id attribute arguments answers outcome =
 abbrev pub Resolves : {M : Type 0} → KindGhosts M → Functions → FunctionDesk M → FluentArgs NoCustom → FluentArgs NoCustom → Pattern (Bor Text) → Outcome → Type 0
 Resolves kind otherwise made arguments answers pattern outcome =
     ComesTo (answer_in kind (answered_at otherwise (names_of made) (arguments_view answers)) made.desk arguments pattern) (arguments_view answers) outcome
+
+-- these lines are of the calls that are gathered of a pattern, by what a desk has and what a plural source means
+abbrev pub Lists : {M : Type 0} → KindGhosts M → Functions → FunctionDesk M → FluentArgs NoCustom → FluentArgs NoCustom → Elements → String Global → Type 0
+Lists kind otherwise made arguments answers elements text =
+    AreGathered (environment_by kind.category_of kind.stringified (answered_at otherwise (names_of made) (arguments_view answers)) made.desk)
+    (arguments_view arguments) (arguments_view answers) elements (string_bytes text)
+
+-- there is no such message, value or attribute, or these lines are of the calls that are gathered of it
+abbrev pub ListsOf : {M : Type 0} → KindGhosts M → Functions → FunctionDesk M → Text → Option (Bor Text) → FluentArgs NoCustom → FluentArgs NoCustom → Option (String Global) → Type 0
+ListsOf kind otherwise made id attribute arguments answers None = IsNone (pattern_asked (option_copied attribute) (find (desk_ids made.desk) id))
+ListsOf kind otherwise made id attribute arguments answers (Some text) =
+    IsSomeAnd (pattern_asked (option_copied attribute) (find (desk_ids made.desk) id)) (λ elements. Lists kind otherwise made arguments answers elements text)

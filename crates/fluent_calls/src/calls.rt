@@ -1,6 +1,8 @@
 //! Functions that are answered by the texts of their calls.
 
-ghost use Rattle.std.specs.Prelude.{IfOk};
+ghost use Rattle.std.specs.Prelude.{◌≡◌, IfOk, None, string_bytes};
+ghost use Rattle.fluent_run.specs.DeskView.{arguments_view};
+ghost use Rattle.fluent_value.specs.Args.{argument};
 ghost use Rattle.fluent_calls.specs.CallsView.{answers_of};
 
 use crate::call::call_text;
@@ -42,6 +44,22 @@ impl<'b, 't, K: Otherwise> Caller<usize> for Calls<'b, 't, K> {
                 self.missing.set(Some(call));
                 Err(AllocError)
             }
+        }
+    }
+}
+
+impl<'b, 't, K: Otherwise> Calls<'b, 't, K> {
+    /// The call that ended resolving.
+    ///
+    /// # Errors
+    /// [`AllocError`] if there is none.
+    pub(crate) fn left(&self) -> Result<String, AllocError>
+        ensures { IfOk result (λ call. argument (string_bytes call) (arguments_view self.now.answers.now) ≡ None) }
+    {
+        // No contract says what a cell holds, so the answers are asked again.
+        match self.missing.replace(None) {
+            Some(call) if self.answers.get(&call).is_none() => Ok(call),
+            _ => Err(AllocError),
         }
     }
 }

@@ -1,12 +1,13 @@
 //! Formats messages that call functions, with answers to their calls.
 
 ghost use Rattle.std.specs.Prelude.{IfOk};
-ghost use Rattle.fluent_run.specs.DeskView.{arguments_view};
+ghost use Rattle.fluent_ast.specs.Borrowed.{elements_of};
 ghost use Rattle.fluent_calls.specs.CallsView.{IsMadeWith};
-ghost use Rattle.fluent_calls.specs.Outcomes.{Formats, IsMissing, Resolves};
+ghost use Rattle.fluent_calls.specs.Outcomes.{Formats, Lists, ListsOf, Resolves};
 
 use crate::calls::Calls;
 use crate::catalog::ids_with;
+use crate::gathering::gather_pattern;
 use crate::otherwise::Otherwise;
 use fluent_ast::Pattern;
 use fluent_progress::Surroundings;
@@ -89,6 +90,67 @@ impl<'b, 'r, 's, M: MemoizerKind> FunctionDesk<'b, 'r, 's, M> {
         Ok(Some(outcome))
     }
 
+    /// The calls without an answer that a message meets whatever any of them gives, a line for
+    /// each: those of its value, or of its first attribute of a name. `None` if there is no such
+    /// message, value or attribute.
+    ///
+    /// They are the calls of the message's own placeables that are plain: literals, variables and
+    /// calls of these. A call among whose arguments another one has no answer comes once that has
+    /// one, and one that the message has twice has two lines. What isn't plain is resolved. If a
+    /// call in it has no answer, that is the last line: what comes after it may depend on it.
+    ///
+    /// # Errors
+    /// Those of [`format`](Self::format).
+    pub fn calls<K: Otherwise>(
+        &self,
+        alloc: Global,
+        id: &str,
+        attribute: Option<&str>,
+        arguments: &FluentArgs<'_, NoCustom>,
+        answers: &FluentArgs<'_, NoCustom>,
+    ) -> Result<Option<String>, AllocError>
+        ensures { IfOk result
+            (ListsOf M.MemoizerKind K.otherwise self.now id.now attribute.entry arguments.now answers.now) }
+    {
+        match self.desk.pattern_named(id, attribute) {
+            Some(pattern) => Ok(Some(self.calls_of::<K>(alloc, pattern, arguments, answers)?)),
+            None => Ok(None),
+        }
+    }
+
+    /// Those of a pattern.
+    fn calls_of<'x, K: Otherwise>(
+        &'x self,
+        alloc: Global,
+        pattern: &'r Pattern<&'s str>,
+        arguments: &'x FluentArgs<'_, NoCustom>,
+        answers: &'x FluentArgs<'_, NoCustom>,
+    ) -> Result<String, AllocError>
+        ensures { IfOk result
+            (Lists M.MemoizerKind K.otherwise self.now arguments.now answers.now (elements_of pattern.now)) }
+    {
+        let calls: Calls<'_, '_, K> = Calls {
+            functions: self.functions,
+            answers,
+            missing: Cell::new(None),
+            otherwise: PhantomData,
+        };
+        let context = Asking {
+            desk: &self.desk,
+            caller: &calls,
+            alloc,
+        };
+        let locals: Option<&'x FluentArgs<'s, NoCustom>> = None;
+        let arguments = Some(arguments);
+        let place = Surroundings {
+            ids: &self.desk.ids,
+            context: &context,
+            arguments,
+            locals,
+        };
+        gather_pattern(&place, &calls, pattern, self.desk.stack)
+    }
+
     /// What a pattern comes to for these arguments, with these answers.
     fn outcome_of<'x, K: Otherwise>(
         &'x self,
@@ -121,24 +183,7 @@ impl<'b, 'r, 's, M: MemoizerKind> FunctionDesk<'b, 'r, 's, M> {
         };
         match resolve(&place, pattern, text, self.desk.stack) {
             Ok(reply) => Ok(Outcome::Text(reply)),
-            Err(AllocError) => missing_call(&calls.missing, answers),
+            Err(AllocError) => Ok(Outcome::Call(calls.left()?)),
         }
-    }
-}
-
-/// The call that was left while a pattern was resolved.
-///
-/// # Errors
-/// [`AllocError`] if there is none.
-fn missing_call(
-    missing: &Cell<Option<String>>,
-    answers: &FluentArgs<'_, NoCustom>,
-) -> Result<Outcome, AllocError>
-    ensures { IfOk result (IsMissing (arguments_view answers.now)) }
-{
-    // No contract says what a cell holds, so the answers are asked again.
-    match missing.replace(None) {
-        Some(call) if answers.get(&call).is_none() => Ok(Outcome::Call(call)),
-        _ => Err(AllocError),
     }
 }

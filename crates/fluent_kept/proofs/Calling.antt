@@ -16,7 +16,7 @@ use Rattle.fluent_run.specs.declared.reply.Reply.{Reply}
 use Rattle.fluent_value.specs.Value.{Value}
 use Rattle.fluent_value.specs.declared.args.FluentArgs.{FluentArgs}
 use Rattle.fluent_value.specs.declared.custom.NoCustom.{NoCustom}
-use Rattle.fluent_kept.specs.Answers.{IsCalled, IsCalledTo, IsReplyOrCall}
+use Rattle.fluent_kept.specs.Answers.{AreMet, AreMetBy, AreMetOrNone, IsCalled, IsCalledTo, IsReplyOrCall}
 use Rattle.fluent_kept.specs.Catalogs.{CallsAs, Catalog, catalog_calling_by, catalog_environment}
 use Rattle.fluent_kept.specs.declared.question.Answer.{Answer}
 
@@ -38,3 +38,11 @@ pub called-as : (catalog : Catalog) (functions : Option (List Text)) (desk : Fun
 called-as catalog None desk id attribute arguments answers answer calls is = absurd calls
 called-as catalog (Some names) desk id attribute arguments answers answer calls is =
     subst (λ env. IsCalled env id (option_copied attribute) (arguments_view arguments) (arguments_view answers) answer) (calls (arguments_view answers)) is
+
+-- the same of the calls that are gathered of a message
+pub met-as : (catalog : Catalog) (functions : Option (List Text)) (desk : FunctionDesk LanguagePlurals) (id : Text) (attribute : Option (Bor Text)) (arguments answers : FluentArgs NoCustom) (answer : Answer) →
+    IsSomeAnd functions (λ names. CallsAs names catalog desk) → AreMetBy desk id attribute arguments answers answer →
+    AreMetOrNone (catalog_environment catalog) (option_map (λ names. catalog_calling_by catalog names (arguments_view answers)) functions) id (option_copied attribute) (arguments_view arguments) (arguments_view answers) answer
+met-as catalog None desk id attribute arguments answers answer calls are = absurd calls
+met-as catalog (Some names) desk id attribute arguments answers answer calls are =
+    subst (λ env. AreMet env id (option_copied attribute) (arguments_view arguments) (arguments_view answers) answer) (calls (arguments_view answers)) are

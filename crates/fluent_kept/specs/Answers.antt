@@ -1,8 +1,9 @@
 -- Which answers there are to a question.
-use Rattle.std.specs.Prelude.{◌≡◌, ℕ, Bool, true, false, List, Option, None, Some, IsNone, IsSome, option_copied, string_bytes}
+use Rattle.std.specs.Prelude.{◌≡◌, ℕ, Bool, true, false, List, [], Option, None, Some, IsNone, IsSome, IsSomeAnd, option_copied, string_bytes}
 use denote.Ref.{Bor}
 use Rattle.fluent_answers.specs.Answers.{pattern_asked}
 use Rattle.fluent_calls.specs.Functions.{Table}
+use Rattle.fluent_calls.specs.Gathering.{AreGathered}
 use Rattle.fluent_calls.specs.declared.desk.FunctionDesk.{FunctionDesk}
 use Rattle.fluent_plurals.specs.declared.plurals.LanguagePlurals.{LanguagePlurals}
 use Rattle.fluent_grammar.specs.Words.{Text}
@@ -94,6 +95,43 @@ abbrev pub IsReplyOrCallTo : Environment (Unit {0}) NoFunction → (Table → Op
 IsReplyOrCallTo env calling id attribute arguments answers answer =
     IsReplyOrCall env (calling (arguments_view answers)) id (option_copied attribute) (arguments_view arguments) (arguments_view answers) answer
 
+-- the calls that are gathered of a message that may call functions, with these arguments, unless memory ran out
+abbrev pub AreMet : Environment (Unit {0}) ℕ → Text → Option Text → List (Text × Value (Unit {0})) → Table → Answer → Type 0
+AreMet env id attribute args table answer.Memory = Unit {0}
+AreMet env id attribute args table answer.NoMessage = Lacks env id attribute answer.NoMessage
+AreMet env id attribute args table answer.NoPattern = Lacks env id attribute answer.NoPattern
+AreMet env id attribute args table answer.Found = ⊥
+AreMet env id attribute args table (answer.Reply reply) = ⊥
+AreMet env id attribute args table (answer.Call call) = ⊥
+AreMet env id attribute args table (answer.Names text) = IsSomeAnd (pattern_asked attribute (env.find id)) (λ elements. AreGathered env args table elements (string_bytes text))
+AreMet env id attribute args table (answer.Report text) = ⊥
+
+-- the same for the code's desk, name, arguments and answers
+abbrev pub AreMetBy : FunctionDesk LanguagePlurals → Text → Option (Bor Text) → FluentArgs NoCustom → FluentArgs NoCustom → Answer → Type 0
+AreMetBy desk id attribute arguments answers answer =
+    AreMet (calling_in desk (arguments_view answers)) id (option_copied attribute) (arguments_view arguments) (arguments_view answers) answer
+
+-- there are no calls of a message where there are no functions
+abbrev pub AreNone : Environment (Unit {0}) NoFunction → Text → Option Text → Answer → Type 0
+AreNone env id attribute answer.Memory = ⊥
+AreNone env id attribute answer.NoMessage = Lacks env id attribute answer.NoMessage
+AreNone env id attribute answer.NoPattern = Lacks env id attribute answer.NoPattern
+AreNone env id attribute answer.Found = ⊥
+AreNone env id attribute (answer.Reply reply) = ⊥
+AreNone env id attribute (answer.Call call) = ⊥
+AreNone env id attribute (answer.Names text) = IsSome (pattern_asked attribute (env.find id)) × (string_bytes text ≡ [])
+AreNone env id attribute (answer.Report text) = ⊥
+
+-- the calls where messages may call functions, and none where they don't
+abbrev pub AreMetOrNone : Environment (Unit {0}) NoFunction → Option (Environment (Unit {0}) ℕ) → Text → Option Text → List (Text × Value (Unit {0})) → Table → Answer → Type 0
+AreMetOrNone env None id attribute args table answer = AreNone env id attribute answer
+AreMetOrNone env (Some calling) id attribute args table answer = AreMet calling id attribute args table answer
+
+-- the same for the code's name, arguments and answers
+abbrev pub AreMetOrNoneBy : Environment (Unit {0}) NoFunction → (Table → Option (Environment (Unit {0}) ℕ)) → Text → Option (Bor Text) → FluentArgs NoCustom → FluentArgs NoCustom → Answer → Type 0
+AreMetOrNoneBy env calling id attribute arguments answers answer =
+    AreMetOrNone env (calling (arguments_view answers)) id (option_copied attribute) (arguments_view arguments) (arguments_view answers) answer
+
 -- what a message gives, of whatever catalog a desk is one of
 abbrev pub IsFormatOf : KeptDesk → Text → Option (Bor Text) → FluentArgs NoCustom → Answer → Type 0
 IsFormatOf desk id attribute arguments answer = ForIts desk (λ catalog. IsReplyTo (catalog_environment catalog) id attribute arguments answer)
@@ -106,6 +144,11 @@ IsFoundBy desk id attribute answer = ForIts desk (λ catalog. IsFound (catalog_e
 abbrev pub IsCallOf : KeptDesk → Text → Option (Bor Text) → FluentArgs NoCustom → FluentArgs NoCustom → Answer → Type 0
 IsCallOf desk id attribute arguments answers answer =
     ForIts desk (λ catalog. IsReplyOrCallTo (catalog_environment catalog) (catalog_calling catalog) id attribute arguments answers answer)
+
+-- the calls that are gathered of a message, of whatever catalog a desk is one of
+abbrev pub AreCallsOf : KeptDesk → Text → Option (Bor Text) → FluentArgs NoCustom → FluentArgs NoCustom → Answer → Type 0
+AreCallsOf desk id attribute arguments answers answer =
+    ForIts desk (λ catalog. AreMetOrNoneBy (catalog_environment catalog) (catalog_calling catalog) id attribute arguments answers answer)
 
 -- the ids of the messages among these entries, unless memory ran out
 abbrev pub AreMessages : Environment (Unit {0}) NoFunction → List (Text × Meaning NoFunction) → Answer → Type 0
@@ -156,6 +199,7 @@ IsReport sources (answer.Report text) = string_bytes text ≡ report_text source
 abbrev pub IsAnswer : Environment (Unit {0}) NoFunction → (Table → Option (Environment (Unit {0}) ℕ)) → Ids NoFunction → List (Text × Meaning NoFunction) → List Text → Question → Answer → Type 0
 IsAnswer env calling ids entries sources (question.Format id attribute arguments spare) answer = IsReplyTo env id.now attribute arguments answer
 IsAnswer env calling ids entries sources (question.Call id attribute arguments answers spare) answer = IsReplyOrCallTo env calling id.now attribute arguments answers answer
+IsAnswer env calling ids entries sources (question.Calls id attribute arguments answers) answer = AreMetOrNoneBy env calling id.now attribute arguments answers answer
 IsAnswer env calling ids entries sources (question.Has id attribute) answer = IsFound env id.now (option_copied attribute) answer
 IsAnswer env calling ids entries sources question.Messages answer = AreMessages env entries answer
 IsAnswer env calling ids entries sources (question.Attributes id) answer = AreAttributes env id.now answer

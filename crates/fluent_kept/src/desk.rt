@@ -1,10 +1,10 @@
 //! What answers questions, from what is read of sources.
 
-ghost use Rattle.std.specs.Prelude.{◌≡◌, IfOk, IfSome, string_bytes};
+ghost use Rattle.std.specs.Prelude.{◌≡◌, IfOk, IfSome, option_copied, string_bytes};
 ghost use Rattle.fluent_check.specs.Report.{report_text};
 ghost use Rattle.fluent_run.specs.ResourceIds.{all_by_id};
 ghost use Rattle.fluent_kept.specs.Catalogs.{AreDesksFor, CallsFor, ForIts, IsDeskFor, IsPlainFor, IsPlainOf, StaysDesk, StaysPlain, catalog_entries, catalog_environment, catalog_ids, catalog_of, plain_environment};
-ghost use Rattle.fluent_kept.specs.Answers.{AnswersAsIts, AreAttributes, AreMessages, AreVariables, IsCallOf, IsCalledTo, IsFormatOf, IsFoundBy, IsReplyTo, found};
+ghost use Rattle.fluent_kept.specs.Answers.{AnswersAsIts, AreAttributes, AreCallsOf, AreMessages, AreMetBy, AreNone, AreVariables, IsCallOf, IsCalledTo, IsFormatOf, IsFoundBy, IsReplyTo, found};
 
 use crate::loose::RawBox;
 use crate::question::{Answer, Question};
@@ -128,6 +128,23 @@ impl<'r, 's> KeptDesk<'r, 's> {
         }
     }
 
+    /// The calls without an answer that a message meets whatever any of them gives.
+    fn calls(
+        &self,
+        alloc: Global,
+        id: &str,
+        attribute: Option<&str>,
+        arguments: &FluentArgs<'_, NoCustom>,
+        answers: &FluentArgs<'_, NoCustom>,
+    ) -> Answer
+        ensures { AreCallsOf self.now id.now attribute.entry arguments.now answers.now result }
+    {
+        match &self.desks {
+            Desks::Plain(desk) => no_calls(desk, alloc, id, attribute),
+            Desks::Calling(desk, _) => calls_met(desk, alloc, id, attribute, arguments, answers),
+        }
+    }
+
     /// Whether a message has a value, or an attribute of a name. It doesn't allocate.
     fn has(&self, id: &str, attribute: Option<&str>) -> Answer
         ensures { IsFoundBy self.now id.now attribute.entry result }
@@ -209,6 +226,12 @@ impl<'r, 's> KeptDesk<'r, 's> {
                 let spare = spare.replace(String::new(alloc));
                 self.call(alloc, *id, *attribute, arguments, answers, spare)
             }
+            Question::Calls {
+                id,
+                attribute,
+                arguments,
+                answers,
+            } => self.calls(alloc, *id, *attribute, arguments, answers),
             Question::Has { id, attribute } => self.has(*id, *attribute),
             Question::Messages => {
                 self.make_plain(alloc);
@@ -348,6 +371,43 @@ fn called(
         Ok(None) if made.desk.has_message(id) => Answer::NoPattern,
         Ok(None) => Answer::NoMessage,
         Err(_) => Answer::Memory,
+    }
+}
+
+/// The calls without an answer that a message meets whatever any of them gives.
+fn calls_met(
+    made: &FunctionDesk<'_, '_, '_, LanguagePlurals>,
+    alloc: Global,
+    id: &str,
+    attribute: Option<&str>,
+    arguments: &FluentArgs<'_, NoCustom>,
+    answers: &FluentArgs<'_, NoCustom>,
+) -> Answer
+    ensures { AreMetBy made.now id.now attribute.entry arguments.now answers.now result }
+{
+    match made.calls::<Unanswered>(alloc, id, attribute, arguments, answers) {
+        Ok(Some(calls)) => Answer::Names(calls),
+        Ok(None) if made.desk.has_message(id) => Answer::NoPattern,
+        Ok(None) => Answer::NoMessage,
+        Err(_) => Answer::Memory,
+    }
+}
+
+/// The calls of a message where there are no functions: none.
+fn no_calls(
+    desk: &Desk<'_, '_, '_, LanguagePlurals>,
+    alloc: Global,
+    id: &str,
+    attribute: Option<&str>,
+) -> Answer
+    ensures { AreNone (plain_environment desk.now) id.now (option_copied attribute.entry) result }
+{
+    if desk.has(id, attribute) {
+        Answer::Names(String::new(alloc))
+    } else if desk.has_message(id) {
+        Answer::NoPattern
+    } else {
+        Answer::NoMessage
     }
 }
 

@@ -24,6 +24,14 @@ pub enum Question<'a> {
         answers: FluentArgs<'a, NoCustom>,
         spare: Cell<String>,
     },
+    /// Which calls without an answer a message meets whatever any of them gives, with answers to
+    /// calls by the calls' texts.
+    Calls {
+        id: &'a str,
+        attribute: Option<&'a str>,
+        arguments: FluentArgs<'a, NoCustom>,
+        answers: FluentArgs<'a, NoCustom>,
+    },
     /// Whether a message has a value, or an attribute of a name.
     Has {
         id: &'a str,
@@ -59,7 +67,7 @@ pub enum Answer {
     /// The first call that has no answer.
     Call(String),
     /// A line for each id, in the order of the first entries; for each name of an attribute, in the
-    /// order of the message; or for each variable, in the order in which they are met.
+    /// order of the message; or for each variable or call, in the order in which they are met.
     Names(String),
     /// A line for each error and for each entry whose id was there before it.
     Report(String),
