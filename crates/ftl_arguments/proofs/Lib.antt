@@ -4,3 +4,4 @@ mod Rows
 pub mod ArgumentsBehind
 pub mod Asked
 pub mod AllOf
+pub mod Gathered

@@ -149,6 +149,49 @@ codes_to_ignore : command_of false (codes "lint" ∷ codes "--ignore" ∷ codes 
 unfolding clap_on_literals
 codes_to_ignore = refl
 
+codes_with_commas : command_of false (codes "lint" ∷ codes "--ignore" ∷ codes "untranslated,no-value" ∷ codes "a" ∷ codes "--ignore=syntax" ∷ [])
+    ≡ Some (lint (record {
+      references = [];
+      functions = [];
+      ignored = codes "untranslated" ∷ codes "no-value" ∷ codes "syntax" ∷ [];
+      locale = None;
+      notes = false;
+      counts = false;
+      strict = false;
+      format = text;
+      files = codes "a" ∷ [];
+    }))
+unfolding clap_on_literals
+codes_with_commas = refl
+
+-- the others are left out, and notes are reported
+codes_to_select : command_of false (codes "lint" ∷ codes "--select" ∷ codes "untranslated,no-value" ∷ codes "--select" ∷ codes "syntax" ∷ codes "a" ∷ [])
+    ≡ Some (lint (record {
+      references = [];
+      functions = [];
+      ignored = codes "byte-order-mark" ∷ codes "duplicate-id" ∷ codes "unknown-message" ∷ codes "unknown-term" ∷ codes "unknown-attribute"
+          ∷ codes "no-default" ∷ codes "cyclic-reference" ∷ codes "unknown-function" ∷ codes "duplicate-attribute" ∷ codes "duplicate-variant"
+          ∷ codes "invalid-escape" ∷ codes "unknown-option" ∷ codes "missing-category" ∷ codes "unused-term" ∷ codes "missing-message"
+          ∷ codes "missing-value" ∷ codes "missing-attribute" ∷ codes "obsolete-value" ∷ codes "obsolete-attribute" ∷ codes "unknown-variable"
+          ∷ codes "unused-variable" ∷ codes "obsolete-message" ∷ [];
+      locale = None;
+      notes = true;
+      counts = false;
+      strict = false;
+      format = text;
+      files = codes "a" ∷ [];
+    }))
+unfolding clap_on_literals
+codes_to_select = refl
+
+no_such_code_among_these : command_of false (codes "lint" ∷ codes "--select" ∷ codes "syntax,value" ∷ codes "a" ∷ []) ≡ None
+unfolding clap_on_literals
+no_such_code_among_these = refl
+
+no_code_behind_a_comma : command_of false (codes "lint" ∷ codes "--ignore" ∷ codes "syntax," ∷ codes "a" ∷ []) ≡ None
+unfolding clap_on_literals
+no_code_behind_a_comma = refl
+
 no_such_code : command_of false (codes "lint" ∷ codes "--ignore" ∷ codes "untranslated" ∷ codes "--ignore" ∷ codes "value" ∷ codes "a" ∷ []) ≡ None
 unfolding clap_on_literals
 no_such_code = refl

@@ -65,9 +65,13 @@ format_shape = shaped (codes "format") (asking_rules ++ each_rule (codes "argume
 abbrev pub known_rules : List Rule
 known_rules = each_rule (codes "reference") ∷ each_rule (codes "function") ∷ option_rule (codes "locale") ∷ []
 
+-- the same, and which findings are left out
+abbrev pub filtered_rules : List Rule
+filtered_rules = known_rules ++ each_rule (codes "ignore") ∷ each_rule (codes "select") ∷ []
+
 -- the same, and what is reported
 abbrev pub reported_rules : List Rule
-reported_rules = known_rules ++ each_rule (codes "ignore") ∷ flag_rule (codes "notes") ∷ flag_rule (codes "counts") ∷ []
+reported_rules = filtered_rules ++ flag_rule (codes "notes") ∷ flag_rule (codes "counts") ∷ []
 
 -- and how
 abbrev pub linting_rules : List Rule

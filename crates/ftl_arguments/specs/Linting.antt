@@ -1,6 +1,6 @@
 -- What `lint` is asked for.
-use Rattle.std.specs.Prelude.{Bool, true, false, not, ◌&&◌, ◌||◌, if◌then◌else◌, List, [], ◌∷◌, Option, Some, None, option_map, option_and_then, codes}
-use Rattle.std.specs.List.{list_all, list_any}
+use Rattle.std.specs.Prelude.{Bool, true, false, not, ◌&&◌, ◌||◌, ◌==◌, ◌++◌, if◌then◌else◌, List, [], ◌∷◌, Option, Some, None, option_map, option_and_then, codes}
+use Rattle.std.specs.List.{filter, flat_map, list_all, list_any, slice_split}
 use Rattle.std.specs.Option.{option_map_or}
 use Rattle.std.specs.Str.{bytes_eq}
 use Rattle.clap.specs.Words.{Row, Text, first_of}
@@ -18,7 +18,7 @@ pub record Lint : Type 0 where
   pub ignored : List Text
   -- the tag of the locale whose plural categories are looked for, if one is given
   pub locale : Option Text
-  -- notes are reported, too
+  -- notes are reported, too: with `--notes`, and where codes are selected
   pub notes : Bool
   -- each file has its counts, also if nothing is missing
   pub counts : Bool
@@ -41,9 +41,35 @@ finding_codes =
 abbrev pub is_code : Text → Bool
 is_code name = list_any (λ code. bytes_eq code name) finding_codes
 
--- the values of `--ignore`
+-- the codes of a value, between its commas
+abbrev pub code_list : Text → List Text
+code_list value = slice_split (λ byte. byte == 44) value
+
+-- the codes of all values of an option
+abbrev pub codes_in : Text → List Row → List Text
+codes_in name rows = flat_map code_list (values_in name rows)
+
+abbrev pub is_any : List Text → Bool
+is_any [] = false
+is_any (path ∷ paths) = true
+
+abbrev pub is_among : List Text → Text → Bool
+is_among texts name = list_any (λ text. bytes_eq text name) texts
+
+abbrev pub others_of : List Text → List Text → List Text
+others_of selected names = filter (λ name. not (is_among selected name)) names
+
+-- If codes are selected, all others are left out.
+abbrev pub unselected : List Text → List Text
+unselected selected = if is_any selected then others_of selected finding_codes else []
+
+-- by `--ignore` and `--select`
 abbrev pub ignored_in : List Row → List Text
-ignored_in rows = values_in (codes "ignore") rows
+ignored_in rows = codes_in (codes "ignore") rows ++ unselected (codes_in (codes "select") rows)
+
+-- both name codes of findings
+abbrev pub are_known : List Row → Bool
+are_known rows = list_all is_code (codes_in (codes "ignore") rows) && list_all is_code (codes_in (codes "select") rows)
 
 -- A name that messages can call a function by. It begins with a capital letter.
 abbrev pub is_function_name : Text → Bool
@@ -57,9 +83,9 @@ functions_in rows = values_in (codes "function") rows
 abbrev pub references_in : List Row → List Text
 references_in rows = values_in (codes "reference") rows
 
-abbrev pub is_any : List Text → Bool
-is_any [] = false
-is_any (path ∷ paths) = true
+-- codes are selected
+abbrev pub is_selecting : List Row → Bool
+is_selecting rows = is_any (values_in (codes "select") rows)
 
 -- counts are of what a reference has
 abbrev pub has_what_it_counts : List Row → Bool
@@ -114,7 +140,7 @@ lint_with rows report_format = record {
   functions = functions_in rows;
   ignored = ignored_in rows;
   locale = locale_in rows;
-  notes = is_given (codes "notes") rows;
+  notes = is_given (codes "notes") rows || is_selecting rows;
   counts = is_given (codes "counts") rows;
   strict = is_given (codes "strict") rows;
   format = report_format;
@@ -123,7 +149,7 @@ lint_with rows report_format = record {
 
 -- the codes are those of findings, messages can call the functions, and there is what is counted
 abbrev pub is_sound : List Row → Bool
-is_sound rows = list_all is_code (ignored_in rows) && (list_all is_function_name (functions_in rows) && has_what_it_counts rows)
+is_sound rows = are_known rows && (list_all is_function_name (functions_in rows) && has_what_it_counts rows)
 
 -- With anything else nothing is asked for, nor with another format or choice of colours.
 abbrev pub lint_in : List Row → Option Lint

@@ -5,6 +5,7 @@
 #![tactic(auto)]
 
 mod advising;
+mod codes;
 mod colours;
 mod commands;
 mod elsewhere;

@@ -2,13 +2,14 @@
 ghost use Rattle.std.specs.Prelude.{◌≡◌, ◌||◌, IfErr, IfOk, Some, None, codes, false, not, option_map, true};
 ghost use Rattle.std.specs.List.{list_all};
 ghost use Rattle.ftl_arguments.specs.Linting.{colours_in, colours_named, format_by, format_in, format_named, lint_in, report_format_in};
-ghost use Rattle.ftl_arguments.specs.Linting.{functions_in, has_what_it_counts, ignored_in, is_any, is_code, is_function_name, references_in};
+ghost use Rattle.ftl_arguments.specs.Linting.{functions_in, has_what_it_counts, is_any, is_code, is_function_name, is_selecting, references_in};
 ghost use Rattle.ftl_arguments.specs.Found.{is_given};
 ghost use Rattle.fluent_grammar.specs.Words.{begins, is_callee_byte, is_capital};
 ghost use Rattle.ftl_arguments.specs.Meaning.{linting, texts};
 ghost use Rattle.ftl_arguments.specs.CommandView.{command_view, found_rows, lint_view, IfRefused};
 ghost use Rattle.lint_report.specs.Formats.{format_view};
 
+use crate::codes::{ignored_in, is_any};
 use crate::commands::{Command, Lint};
 use crate::reading::{WordsError, is_given, locale_in, values_in};
 use crate::tidying::is_input;
@@ -70,7 +71,7 @@ pub(crate) fn lint_in<'words>(
         functions,
         ignored,
         locale: locale_in(found),
-        notes: is_given(found, "notes"),
+        notes: is_given(found, "notes") || is_selecting(found),
         counts: is_given(found, "counts"),
         strict: is_given(found, "strict"),
         format,
@@ -87,23 +88,6 @@ pub(crate) fn linting(lint: Lint<'_>) -> Command<'_>
         Command::LintInput(lint)
     } else {
         Command::Lint(lint)
-    }
-}
-
-/// The codes of findings that are to be left out, if findings have them.
-fn ignored_in<'words>(
-    alloc: Global,
-    found: &ArgMatches<'words>,
-) -> Result<Vec<&'words str>, WordsError>
-    ensures values { IfOk result (λ values. texts values.items ≡ ignored_in (found_rows found.now)) }
-    ensures known { IfOk result (λ _. list_all is_code (ignored_in (found_rows found.now)) ≡ true) }
-    ensures unknown { IfRefused result (list_all is_code (ignored_in (found_rows found.now)) ≡ false) }
-{
-    let values = values_in(alloc, found, "ignore")?;
-    if are_codes(&values) {
-        Ok(values)
-    } else {
-        Err(WordsError::Bad)
     }
 }
 
@@ -143,19 +127,19 @@ fn references_in<'words>(
     }
 }
 
+/// Whether codes are selected.
+fn is_selecting(found: &ArgMatches<'_>) -> bool
+    ensures { result ≡ is_selecting (found_rows found.now) }
+{
+    is_any(found.get_raw("select").unwrap_or(&[]))
+}
+
 /// Whether there is a reference, if counts are asked for.
 fn has_what_it_counts(found: &ArgMatches<'_>, references: &[&str]) -> bool
     ensures { result ≡ (not (is_given (codes "counts") (found_rows found.now))
         || is_any (texts references.now)) }
 {
     !is_given(found, "counts") || matches!(references, [_, ..])
-}
-
-/// Whether findings have each of these codes.
-fn are_codes(names: &[&str]) -> bool
-    ensures { result ≡ list_all (λ name. is_code name.now) names.now }
-{
-    names.iter().all(|name| is_code(name))
 }
 
 /// Whether findings have this code.

@@ -5,7 +5,7 @@ ghost use Rattle.ftl_arguments.specs.Commands.{IsShaped, IsLocal, shaped, with_c
 ghost use Rattle.ftl_arguments.specs.Commands.{flag_rule, option_rule, each_rule, default_rule};
 ghost use Rattle.ftl_arguments.specs.Commands.{id_rule, file_rule, files_rule};
 ghost use Rattle.ftl_arguments.specs.Commands.{bare_program, program_app, asking_rules, flagged_rules, format_shape, run_shape};
-ghost use Rattle.ftl_arguments.specs.Commands.{known_rules, lint_shape, linting_rules, reported_rules, with_reports, with_tidying};
+ghost use Rattle.ftl_arguments.specs.Commands.{filtered_rules, known_rules, lint_shape, linting_rules, reported_rules, with_reports, with_tidying};
 
 use crate::tidying::{paths, with_tidy};
 use crate::version::VERSION;
@@ -200,10 +200,16 @@ fn reporting<'a>(alloc: Global) -> Result<Command<'a>, AllocError>
 fn choosing<'a>(alloc: Global) -> Result<Command<'a>, AllocError>
     ensures { IfOk result (IsShaped (shaped (codes "lint") reported_rules)) }
 {
-    comparing(alloc)?
-        .arg(ignored(alloc))?
+    filtering(alloc)?
         .arg(flag(alloc, "notes").help("Report notes, too"))?
         .arg(counts(alloc))
+}
+
+/// The same with the options alone that say what is known, and which findings are left out.
+fn filtering<'a>(alloc: Global) -> Result<Command<'a>, AllocError>
+    ensures { IfOk result (IsShaped (shaped (codes "lint") filtered_rules)) }
+{
+    comparing(alloc)?.arg(ignored(alloc))?.arg(selected(alloc))
 }
 
 /// The same with the options alone that say what is known of the program and of the language.
@@ -295,7 +301,16 @@ fn ignored<'a>(alloc: Global) -> Arg<'a>
     ensures { IsLocal (each_rule (codes "ignore")) result }
 {
     each(alloc, "ignore", "CODE").help(
-        "Leave out findings with this code of those below (repeatable)",
+        "Leave out findings with this code of those below; several as a,b (repeatable)",
+    )
+}
+
+/// A code of findings that `lint` reports alone.
+fn selected<'a>(alloc: Global) -> Arg<'a>
+    ensures { IsLocal (each_rule (codes "select")) result }
+{
+    each(alloc, "select", "CODE").help(
+        "Report findings with this code alone, notes too; several as a,b (repeatable)",
     )
 }
 

@@ -14,8 +14,11 @@ pub(crate) enum Refused<'words> {
         choices: &'static str,
         value: &'words str,
     },
-    /// A code that no finding has.
-    Code(&'words str),
+    /// A code that no finding has, of this option.
+    Code {
+        option: &'static str,
+        code: &'words str,
+    },
     /// Counts without a reference.
     Counts,
 }
@@ -41,7 +44,7 @@ impl<'words> Refused<'words> {
                 choices,
                 value,
             } => format!(in alloc; "{option} takes {choices}, and not '{value}';"),
-            Refused::Code(code) => reason_of_code(alloc, code),
+            Refused::Code { option, code } => reason_of_code(alloc, option, code),
             Refused::Counts => String::from_str(alloc, "--counts needs --reference;"),
         }
     }
@@ -75,9 +78,8 @@ fn refused_way<'words>(found: &ArgMatches<'words>) -> Option<Refused<'words>> {
 
 /// A code or the name of a function that there can't be, or counts of nothing.
 fn refused_name<'words>(found: &ArgMatches<'words>) -> Option<Refused<'words>> {
-    let codes = found.get_raw("ignore").unwrap_or(&[]);
-    if let Some(code) = codes.iter().find(|code| !is_code(code)) {
-        return Some(Refused::Code(*code));
+    if let Some(refused) = refused_code(found) {
+        return Some(refused);
     }
     let functions = found.get_raw("function").unwrap_or(&[]);
     if let Some(name) = functions.iter().find(|name| !is_function_name(name)) {
@@ -89,6 +91,31 @@ fn refused_name<'words>(found: &ArgMatches<'words>) -> Option<Refused<'words>> {
     }
     if found.get_str("counts") == Some("true") && found.get_raw("reference").is_none() {
         return Some(Refused::Counts);
+    }
+    None
+}
+
+/// A code that no finding has, of those that are left out or selected.
+fn refused_code<'words>(found: &ArgMatches<'words>) -> Option<Refused<'words>> {
+    if let Some(code) = unknown_code(found, "ignore") {
+        return Some(Refused::Code {
+            option: "--ignore",
+            code,
+        });
+    }
+    let code = unknown_code(found, "select")?;
+    Some(Refused::Code {
+        option: "--select",
+        code,
+    })
+}
+
+/// The first code of an option that no finding has.
+fn unknown_code<'words>(found: &ArgMatches<'words>, option: &str) -> Option<&'words str> {
+    for value in found.get_raw(option).unwrap_or(&[]) {
+        if let Some(code) = value.split(',').find(|code| !is_code(code)) {
+            return Some(code);
+        }
     }
     None
 }
@@ -107,15 +134,12 @@ fn refused_by_format<'words>(found: &ArgMatches<'words>) -> Option<Refused<'word
 }
 
 /// Why there is no such code, and which one may be meant.
-fn reason_of_code(alloc: Global, code: &str) -> Result<String, AllocError> {
-    if code.contains(',') {
-        return format!(in alloc; "--ignore takes one code, and not '{code}'; repeat it for more;");
-    }
+fn reason_of_code(alloc: Global, option: &str, code: &str) -> Result<String, AllocError> {
     match near_code(alloc, code)? {
         Some(near) => format!(in alloc;
-            "--ignore takes the code of a finding, and not '{code}'; did you mean '{near}'?"
+            "{option} takes the code of a finding, and not '{code}'; did you mean '{near}'?"
         ),
-        None => format!(in alloc; "--ignore takes the code of a finding, and not '{code}';"),
+        None => format!(in alloc; "{option} takes the code of a finding, and not '{code}';"),
     }
 }
 

@@ -1,7 +1,7 @@
 use Rattle.std.proofs.Common.{◌∙◌}
 use Rattle.ftl_arguments.specs.Linting.{is_code}
 use Rattle.ftl_arguments.proofs.AllOf.{all_so}
-use Rattle.ftl_arguments.proofs.linting.ignored_in.Goals as goal
+use Rattle.ftl_arguments.proofs.codes.known_codes_in.Goals as goal
 
 pub returns-then-are_codes-clause-known : goal.returns-then-are_codes-clause-known
 returns-then-are_codes-clause-known c =
