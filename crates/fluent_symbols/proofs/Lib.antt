@@ -3,5 +3,7 @@ mod Rows
 mod RestsEnd
 mod PiecesFound
 pub mod NamesThere
+pub mod MentionsAreTheTree
+pub mod NamesInOrder
 mod NodeRows
 pub mod LinePlaces

@@ -41,12 +41,12 @@ name_cut : (s name rest : Text) → begins is_letter s ≡ true → identifier_a
 unfolding identifier_at
 name_cut s name rest b h = cut_step (begins is_letter s) (take (name_len s) s) (drop (name_len s) s) name rest _ b h
 
-name_rest : {name s rest : Text} → SpellsName name s rest → drop (name_len s) s ≡ rest
+pub name_rest : {name s rest : Text} → SpellsName name s rest → drop (name_len s) s ≡ rest
 name_rest {name} {s} {rest} n = name_cut s name rest n.letter_first (name_complete n)
 
 -- ---- values
 
-value_is : (value : t.Elements) → value_elements (value_of value) ≡ value
+pub value_is : (value : t.Elements) → value_elements (value_of value) ≡ value
 value_is t.no_elements = refl
 value_is (t.text x es) = refl
 value_is (t.placeable e es) = refl

@@ -7,6 +7,8 @@ pub mod Lines
 pub mod Tokens
 pub mod Sources
 pub mod OffsetLaws
+pub mod Mentions
+pub mod OrderLaws
 pub mod Node
 pub mod PatternNodes
 pub mod EntryNodes

@@ -1,10 +1,10 @@
 -- Reports on one file.
-use Rattle.std.proofs.Common.{◌≡◌, ◌∙◌, List, [], ◌∷◌, ◌++◌, true, map, filter, ap, refl, append-nil, Option, None, Some, IfSome, option_map}
+use Rattle.std.proofs.Common.{◌≡◌, ◌∙◌, List, [], ◌∷◌, ◌++◌, true, map, filter, ap, refl, append-nil, Option, None, Some, IfSome, option_map, Result, Ok, Err, IfOk, IfErr, String, string_bytes, subst, sym}
 use Rattle.lint_findings.specs.Findings.{FileFinding, findings_in}
 use Rattle.lint_findings.specs.Finding.{Severity, error, warning, note}
 use Rattle.lint_findings.specs.Report.{is_shown, report_text, shown}
 use Rattle.lint_finding.specs.View.{file_view, finding_view}
-use Rattle.std.specs.Global.{Vec}
+use Rattle.std.specs.Global.{Global, Vec}
 use Rattle.lint_finding.specs.declared.records.File.{File}
 use Rattle.lint_finding.specs.declared.records.Finding.{Finding}
 use Rattle.lint_report.specs.Formats.{report_output}
@@ -12,10 +12,11 @@ use Rattle.lint_report.specs.View.{shown_width}
 use Rattle.lint_report.specs.declared.reports.Format.TheVariants as format
 use Rattle.fluent_serve.specs.Text.{Text}
 use Rattle.fluent_tidy.specs.Reasons.{IsReason}
-use Rattle.fluent_tidy.specs.TidyText.{plain}
+use Rattle.fluent_tidy.specs.TidyText.{IsTidyText, plain}
 use Rattle.fluent_tidy.specs.declared.tidy_error.TidyError.{TidyError}
 use Rattle.fluent_tidy.specs.declared.tidy_error.TidyError.TheVariants.{Memory, CarriageReturn, Damaged, NotTidy}
-use Rattle.ftl_files.specs.Tidying.{IsReport, IsSourceEnd, end_for}
+use Rattle.ftl_files.specs.TidyView.{IsEndBy, IsEndOf}
+use Rattle.ftl_files.specs.Tidying.{FileEnd, IsRefusedFor, IsReport, IsSourceEnd, changed, end_for, failed, kept, out_of_memory, refused}
 
 all_shown : (s : Severity) → is_shown true s ≡ true
 all_shown error = refl
@@ -49,3 +50,19 @@ source_ends name source (Damaged found) report right reported =
     record { reason = Damaged found; refuses = λ is. absurd cc; right = right; reported = reported }
 source_ends name source (NotTidy offset) report right reported =
     record { reason = NotTidy offset; refuses = λ is. absurd cc; right = right; reported = reported }
+
+-- so does one that was tidied
+pub refused_ends : (name source : Text) (reason : TidyError) (end : FileEnd) → IsReason source reason → IsRefusedFor name source reason end → IsSourceEnd name source end
+refused_ends name source reason end right h = rw h.is (source_ends name source reason h.report right h.reported)
+
+tidied_ends : (name source text : Text) (end : FileEnd) → IsTidyText source text → IsEndBy text source end → IsSourceEnd name source end
+tidied_ends name source text kept tidy h = subst (λ z. IsTidyText source z) h tidy
+tidied_ends name source text (changed new) tidy h = (subst (λ z. IsTidyText source z) (sym h.0) tidy, h.1)
+tidied_ends name source text (failed f why) tidy h = h
+tidied_ends name source text (refused report) tidy h = absurd h
+tidied_ends name source text (out_of_memory report) tidy h = absurd h
+
+pub ends_so : (name source : Text) (tidied : Result (String Global) TidyError) (end : FileEnd) → IfOk tidied (λ text. IsTidyText source (string_bytes text)) → IfErr tidied (IsReason source) →
+    IsEndOf name source tidied end → IsSourceEnd name source end
+ends_so name source (Ok text) end tidy right h = tidied_ends name source (string_bytes text) end tidy h
+ends_so name source (Err reason) end tidy right h = refused_ends name source reason end right h

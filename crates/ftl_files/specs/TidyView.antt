@@ -1,9 +1,10 @@
 -- What the code's values stand for.
-use Rattle.std.specs.Prelude.{◌≡◌, Bool, List, Option, map, IfSome, Result, Ok, Err, String, option_copied, string_bytes}
+use Rattle.std.specs.Prelude.{◌≡◌, ◌≢◌, Bool, List, Option, map, IfSome, Result, Ok, Err, String, option_copied, string_bytes}
 use Rattle.std.specs.Global.{Global}
 use denote.Ref.{Bor}
 use Rattle.fluent_serve.specs.Text.{Text}
 use Rattle.fluent_serve.specs.Texts.{texts}
+use Rattle.fluent_tidy.specs.declared.tidy_error.TidyError.{TidyError}
 use Rattle.ftl_files.specs.Files.{OnFile, State}
 use Rattle.ftl_files.specs.States.{state_of}
 use Rattle.ftl_files.specs.declared.folder.Folder.{Ghosts as FolderGhosts}
@@ -33,6 +34,18 @@ end_view (Changed text) = tidying.changed (string_bytes text)
 end_view (Failed failure why) = tidying.failed (failure_view failure) (option_copied why)
 end_view (Refused report) = tidying.refused (string_bytes report)
 end_view (OutOfMemory report) = tidying.out_of_memory (string_bytes report)
+
+-- what becomes of a source that was tidied so
+abbrev pub IsEndBy : Text → Text → tidying.FileEnd → Type 0
+IsEndBy text source tidying.kept = text ≡ source
+IsEndBy text source (tidying.changed new) = (new ≡ text) × (new ≢ source)
+IsEndBy text source (tidying.failed failure why) = ⊥
+IsEndBy text source (tidying.refused report) = ⊥
+IsEndBy text source (tidying.out_of_memory report) = ⊥
+
+abbrev pub IsEndOf : Text → Text → Result (String Global) TidyError → tidying.FileEnd → Type 0
+IsEndOf name source (Ok text) end = IsEndBy (string_bytes text) source end
+IsEndOf name source (Err reason) end = tidying.IsRefusedFor name source reason end
 
 abbrev pub listed_view : Listed → listing.Listed
 listed_view l = record { names = map string_bytes l.names.items; errors = string_bytes l.errors; no_file = l.no_file }

@@ -135,6 +135,12 @@ end_for CarriageReturn report = refused report
 end_for (Damaged found) report = refused report
 end_for (NotTidy offset) report = refused report
 
+-- a source becomes this by a reason for which it has no tidy text: that memory ran out is said only if that is the reason
+pub record IsRefusedFor (name source : Text) (reason : TidyError) (end : FileEnd) : Type 0 where
+  pub report : Text
+  pub is : end ≡ end_for reason report
+  pub reported : IsReport name (plain source) reason report
+
 -- ---- one file
 
 -- what becomes of a source

@@ -1,5 +1,6 @@
 //! The sources below a folder.
-ghost use Rattle.std.specs.Prelude.{◌≡◌, ◌∷◌, [], IfOk, IsSorted, map, string_bytes, string_cmp};
+ghost use Rattle.std.specs.Prelude.{◌≡◌, ◌↔◌, ◌⊎◌, ◌∷◌, [], IfOk, IsSorted, IsTrue, map, string_bytes, string_cmp};
+ghost use Rattle.std.specs.Fs.{IsFile, IsSymlink};
 ghost use Rattle.ftl_files.specs.Files.{StandFor, is_source_name};
 ghost use Rattle.ftl_files.specs.Listing.{AddsBelow, AreListedBelow, listed_names, path_in, slash_after};
 
@@ -173,7 +174,9 @@ fn slash_after(folder: &str) -> &'static str
 }
 
 /// Whether it may be read to its end, as a pipe may not. A link may lead to a file.
-fn is_text_file(kind: FileType) -> bool {
+fn is_text_file(kind: FileType) -> bool
+    ensures { IsTrue result ↔ (IsFile kind ⊎ IsSymlink kind) }
+{
     kind.is_file() || kind.is_symlink()
 }
 

@@ -7,7 +7,7 @@ ghost use Rattle.fluent_tidy.specs.Reasons.{IsReason};
 ghost use Rattle.fluent_tidy.specs.TidyText.{plain};
 ghost use Rattle.lint_finding.specs.View.{finding_view};
 ghost use Rattle.ftl_files.specs.TidyView.{end_view};
-ghost use Rattle.ftl_files.specs.Tidying.{HasItsErrors, IsIdOf, IsReport, IsReturn, IsShapeAt, IsSourceEnd, damage_report, end_for, finding_report, findings_report};
+ghost use Rattle.ftl_files.specs.Tidying.{HasItsErrors, IsIdOf, IsRefusedFor, IsReport, IsReturn, IsShapeAt, damage_report, end_for, finding_report, findings_report};
 
 use crate::depth::depth_report;
 use crate::ends::FileEnd;
@@ -34,7 +34,7 @@ pub(crate) fn refused_source(
     reason: TidyError,
 ) -> Result<FileEnd, AllocError>
     requires right { IsReason source.now reason }
-    ensures { IfOk result (λ end. IsSourceEnd name.now source.now (end_view end)) }
+    ensures { IfOk result (λ end. IsRefusedFor name.now source.now reason (end_view end)) }
 {
     let plain = with_line_feeds(alloc, without_mark(source))?;
     let report = refusal_report(alloc, name, plain.as_str(), &reason)?;

@@ -1,4 +1,6 @@
 //! Replacing what a file holds at once.
+ghost use Rattle.std.specs.Prelude.{OnOk};
+ghost use Rattle.std.specs.Io.KnownBytes.{Appends};
 
 use crate::system::read_file;
 use std::alloc::Global;
@@ -138,6 +140,13 @@ fn write_synced<F: OpenFile + Write + Drop>(
     bytes: &[u8],
 ) -> io::Result<()> {
     let mut file = file;
+    write_all(&mut file, found, bytes)
+}
+
+/// The same for a file that is closed later.
+fn write_all<F: OpenFile + Write>(file: &mut F, found: &Metadata, bytes: &[u8]) -> io::Result<()>
+    ensures { OnOk result (Appends (F.contents file.old) (F.contents file.new) bytes.now) }
+{
     file.set_permissions(found.permissions())?;
     file.write_all(bytes)?;
     file.sync_all()

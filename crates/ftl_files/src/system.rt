@@ -1,5 +1,5 @@
 //! The system's files.
-ghost use Rattle.std.specs.Prelude.{◌≡◌, [], None};
+ghost use Rattle.std.specs.Prelude.{◌≡◌, [], IfOk, IfSome, None};
 ghost use Rattle.fluent_serve.specs.Devices.{one_more};
 ghost use Rattle.ftl_files.specs.Rows.{IsNoted, noted};
 
@@ -165,7 +165,15 @@ impl<R: Files> Folder for FromFiles<'_, R> {
 
 /// Reads a file of the system to its end.
 pub(crate) fn read_file<R: Files>(files: &R, alloc: Global, name: &str) -> io::Result<Vec<u8>> {
+    read_whole(File::open(files, name)?, alloc)
+}
+
+/// All that is left of an open file.
+fn read_whole<F: Read + Drop>(file: F, alloc: Global) -> io::Result<Vec<u8>>
+    ensures { IfOk result (λ bytes. IfSome (F.remaining file) (λ left. bytes.items ≡ left)) }
+{
+    let mut file = file;
     let mut bytes = Vec::new(alloc);
-    File::open(files, name)?.read_to_end(&mut bytes)?;
+    file.read_to_end(&mut bytes)?;
     Ok(bytes)
 }

@@ -1,6 +1,7 @@
 //! Tidying files in place.
-ghost use Rattle.std.specs.Prelude.{◌≡◌, false, IfOk, IfSome, OnErr};
-ghost use Rattle.ftl_files.specs.TidyView.{AreTidiedFirstOn, AreTidiedOn, EndsOnFolder, GoesThroughFirstOn, GoesThroughOn, HoldsUntidy, IsReadOn, end_view};
+ghost use Rattle.std.specs.Prelude.{◌≡◌, false, IfErr, IfOk, IfSome, OnErr};
+ghost use Rattle.fluent_tidy.specs.Reasons.{IsReason};
+ghost use Rattle.ftl_files.specs.TidyView.{AreTidiedFirstOn, AreTidiedOn, EndsOnFolder, GoesThroughFirstOn, GoesThroughOn, HoldsUntidy, IsEndOf, IsReadOn, end_view};
 ghost use Rattle.ftl_files.specs.Tidying.{IsSourceEnd};
 
 use crate::ends::{Failure, FileEnd};
@@ -8,7 +9,7 @@ use crate::folder::{FileError, Folder, ReplaceError};
 use crate::listed::{each_once, list_paths};
 use crate::refusals::refused_source;
 use crate::tidied::TidiedFiles;
-use fluent_tidy::tidy;
+use fluent_tidy::{TidyError, tidy};
 use std::alloc::{AllocError, Global};
 
 /// Tidies the files that paths stand for, each once, one after the other, in place; with `check` it
@@ -123,7 +124,20 @@ pub(crate) fn why_of<F: Folder>(folder: &F, failure: Failure) -> Option<&'static
 pub fn tidy_source(alloc: Global, name: &str, source: &str) -> Result<FileEnd, AllocError>
     ensures { IfOk result (λ end. IsSourceEnd name.now source.now (end_view end)) }
 {
-    match tidy(alloc, source) {
+    source_end(alloc, name, source, tidy(alloc, source))
+}
+
+/// What becomes of a source that was tidied so.
+fn source_end(
+    alloc: Global,
+    name: &str,
+    source: &str,
+    tidied: Result<String, TidyError>,
+) -> Result<FileEnd, AllocError>
+    requires reason { IfErr tidied (IsReason source.now) }
+    ensures { IfOk result (λ end. IsEndOf name.now source.now tidied (end_view end)) }
+{
+    match tidied {
         Ok(text) if text.as_str() == source => Ok(FileEnd::Kept),
         Ok(text) => Ok(FileEnd::Changed(text)),
         Err(reason) => refused_source(alloc, name, source, reason),

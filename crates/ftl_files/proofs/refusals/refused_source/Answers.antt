@@ -1,7 +1,6 @@
 use Rattle.std.proofs.Common.{◌≡◌, ◌∙◌, ap, string_bytes, subst}
 use Rattle.fluent_tidy.specs.TidyText.{plain, with_line_feeds}
 use Rattle.ftl_files.specs.Tidying.{IsReport}
-use Rattle.ftl_files.proofs.ReportLemmas.{source_ends}
 use Rattle.ftl_files.proofs.refusals.refused_source.Goals as goal
 
 pub returns : goal.returns
@@ -9,4 +8,8 @@ returns c =
     let source = c.args.source.now in
     let report = string_bytes c.in_ok-report.report in
     let same : c.as_str.result.now ≡ plain source = c.as_str.ensures.value ∙ c.in_ok-plain.ensures ∙ ap with_line_feeds c.without_mark.ensures in
-    rw c.end_for.ensures (source_ends c.args.name.now source c.args.reason report c.requires.right (subst (λ z. IsReport c.args.name.now z c.args.reason report) same c.in_ok-report.ensures))
+    record {
+      report = report;
+      is = c.end_for.ensures;
+      reported = subst (λ z. IsReport c.args.name.now z c.args.reason report) same c.in_ok-report.ensures;
+    }
