@@ -1,5 +1,5 @@
 #!/bin/sh
-# Builds the static library, crates/fluent_c/out/libfluent_c.a.
+# Builds the static library, crates/fluent_c/out/libfluent_c.a, and writes fluent_c.pc next to it, for pkg-config.
 #
 # The merge gate leaves a library of each crate. If they are there, only fluent_c itself is proved again, in two minutes. Else
 # `rt lib` proves first what it stands on and hasn't been built, which takes up to an hour.
@@ -9,6 +9,7 @@ root=$(cd "$(dirname "$0")/.." && pwd)
 . "$root/tools/lib/crates.sh"
 cd "$root/crates/fluent_c"
 mkdir -p out
+"$root/bindings/pkg_config.sh" out
 set -- --crate-name fluent_c --crate-type staticlib -o out/libfluent_c.a
 for name in std $(crate_libraries fluent_c); do
     folder=$root/crates/$name/out/rlib

@@ -140,6 +140,15 @@ static void try_nodes(void) {
     fluent_free_text(&lines);
 }
 
+static void try_trees(void) {
+    struct FluentText source = {0};
+    const char *tree = "{\"body\":[{\"content\":\"!\",\"type\":\"Junk\"}],\"syntax\":\"2\",\"type\":\"Resource\"}";
+    check("a tree", fluent_write_tree_of(tree, true, &source) == FLUENT_READ && holds(&source, "!"));
+    check("a tree without junk", fluent_write_tree_of(tree, false, &source) == FLUENT_READ && holds(&source, ""));
+    check("the tree of NULL", fluent_write_tree_of(NULL, false, &source) == FLUENT_NOT_JSON && holds(&source, ""));
+    fluent_free_text(&source);
+}
+
 static void try_lint(void) {
     struct FluentText report = {0};
     const struct FluentFile files[] = {fluent_file("de.ftl", "hi = { F() }\n"), fluent_file("", NULL)};
@@ -222,12 +231,13 @@ int main(void) {
     try_outline();
     try_occurrences();
     try_nodes();
+    try_trees();
     try_lint();
     check("a value is there", fluent_has(&bundle, "a", NULL) == FLUENT_READ);
     check("an attribute isn't", fluent_has(&bundle, "n", "title") == FLUENT_NO_PATTERN);
     try_freeing(&bundle);
     check("a bundle isn't there", fluent_has(&bundle, "a", NULL) == FLUENT_NO_BUNDLE);
-    for (uint32_t status = FLUENT_READ; status <= FLUENT_CALL; status++)
+    for (uint32_t status = FLUENT_READ; status <= FLUENT_NOT_TREE; status++)
         check("the words of a status", strcmp(fluent_status_text(status), fluent_status_text(99)) != 0);
     printf("fluent.h: %u tried, %u wrong\n", tried, wrong);
     return wrong == 0 ? 0 : 1;

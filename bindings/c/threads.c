@@ -17,6 +17,7 @@ static const char SOURCE[] =
     "-brand = Firefox\nhello = Hello, { $name }!\n    .title = { -brand }\n"
     "many = { $n ->\n    [one] One file\n   *[other] { NUMBER($n) } files\n}\n"
     "made = { JOIN(UP(\"a\"), UP(\"b\"), UP($name)) }\nbroken = { $absent } { absent }\n";
+static const char TREE[] = "{\"body\":[{\"content\":\"!\",\"type\":\"Junk\"}],\"type\":\"Resource\"}";
 
 /* What the threads share, under the lock. */
 static struct {
@@ -59,6 +60,14 @@ static bool calls_functions(struct FluentBundle *bundle, struct FluentText *text
     return status == FLUENT_READ && holds(text, "joined");
 }
 
+/* The calls of that message, which are known before any of them has an answer. */
+static bool lists_calls(struct FluentBundle *bundle, struct FluentText *calls) {
+    const struct FluentArgument name = fluent_text_argument("name", "Jane");
+    const uint8_t *id = (const uint8_t *)"made", *none = (const uint8_t *)"";
+    return fluent_bundle_calls(bundle, id, 4, none, 0, &name, 1, &name, 0, calls) == FLUENT_READ
+        && holds(calls, "[\"UP\",[\"a\"],{}]\n[\"UP\",[\"b\"],{}]\n[\"UP\",[\"Jane\"],{}]\n");
+}
+
 /* Asks a bundle all that can be asked. */
 static bool asks(struct FluentBundle *bundle, struct FluentText *text, struct FluentText *errors, struct FluentText *call) {
     const struct FluentArgument n = fluent_integer_argument("n", 3), name = fluent_text_argument("name", "Jane");
@@ -66,7 +75,7 @@ static bool asks(struct FluentBundle *bundle, struct FluentText *text, struct Fl
         && fluent_format(bundle, "hello", "title", NULL, 0, text, errors) == FLUENT_READ && holds(text, "Firefox")
         && fluent_format(bundle, "many", NULL, &n, 1, text, errors) == FLUENT_READ && holds(text, "3 files")
         && fluent_format(bundle, "broken", NULL, NULL, 0, text, errors) == FLUENT_READ && holds(text, "{$absent} {absent}")
-        && calls_functions(bundle, text, call) && fluent_has(bundle, "many", NULL) == FLUENT_READ
+        && calls_functions(bundle, text, call) && lists_calls(bundle, call) && fluent_has(bundle, "many", NULL) == FLUENT_READ
         && fluent_bundle_messages(bundle, text) == FLUENT_READ && holds(text, "hello\nmany\nmade\nbroken\n")
         && fluent_attributes(bundle, "hello", text) == FLUENT_READ && holds(text, "title\n")
         && fluent_variables(bundle, "many", text) == FLUENT_READ && holds(text, "n\n")
@@ -88,6 +97,7 @@ static bool reads(struct FluentText *text) {
     return fluent_parse(source, len, &counts) == FLUENT_READ && counts.messages == 4
         && fluent_outline(source, len, text, &counts) == FLUENT_READ && counts.terms == 1
         && fluent_write(source, len, true, text) == FLUENT_READ && fluent_write_json(source, len, text) == FLUENT_READ
+        && fluent_write_tree((const uint8_t *)TREE, sizeof TREE - 1, true, text) == FLUENT_READ && holds(text, "!")
         && fluent_occurrences(source, len, text) == FLUENT_READ && fluent_tidy(source, len, text, &place) == FLUENT_READ
         && fluent_lint(&file, 1, &file, 0, &options, text) == FLUENT_HAS_ERRORS
         && fluent_has_plural_rules((const uint8_t *)"pl", 2)

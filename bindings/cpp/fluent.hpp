@@ -57,6 +57,8 @@ enum class status : std::uint32_t {
     carriage_return = FLUENT_CARRIAGE_RETURN,
     not_tidy = FLUENT_NOT_TIDY,
     call = FLUENT_CALL,
+    not_json = FLUENT_NOT_JSON,
+    not_tree = FLUENT_NOT_TREE,
 };
 
 // What a status says. It is for programmers, in English, without a full stop.
@@ -88,6 +90,10 @@ inline const char *words_of(status why) noexcept {
         return "the source has no tidy text";
     case status::call:
         return "a call of a function has no answer yet";
+    case status::not_json:
+        return "the text isn't JSON, or is nested too deep";
+    case status::not_tree:
+        return "no tree has the value of the JSON text";
     }
     return "no call returns this number";
 }

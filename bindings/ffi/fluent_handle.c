@@ -291,6 +291,10 @@ uint32_t fluent_handle_tree(struct FluentHandle *handle, const char *source, siz
     return fluent_write_json(bytes_of(source), len, &handle->text);
 }
 
+uint32_t fluent_handle_written(struct FluentHandle *handle, const char *tree, size_t len, bool with_junk) {
+    return fluent_write_tree(bytes_of(tree), len, with_junk, &handle->text);
+}
+
 uint32_t fluent_handle_nodes(struct FluentHandle *handle, const char *source, size_t len) {
     return fluent_nodes(bytes_of(source), len, &handle->text);
 }

@@ -101,9 +101,11 @@ uint32_t fluent_handle_variables(struct FluentHandle *handle, const char *id, si
 uint32_t fluent_handle_source_errors(struct FluentHandle *handle);
 
 /* Tools, which need no bundle: the text in the handle is then the tidy text of a source, its tree as JSON, the nodes of
- * its tree, or its occurrences, as fluent_tidy, fluent_write_json, fluent_nodes and fluent_occurrences of fluent_c.h make them. */
+ * its tree, or its occurrences, as fluent_tidy, fluent_write_json, fluent_nodes and fluent_occurrences of fluent_c.h make them;
+ * or the source of a tree that is given as JSON, with its junk or without, as fluent_write_tree makes it. */
 uint32_t fluent_handle_tidy(struct FluentHandle *handle, const char *source, size_t len);
 uint32_t fluent_handle_tree(struct FluentHandle *handle, const char *source, size_t len);
+uint32_t fluent_handle_written(struct FluentHandle *handle, const char *tree, size_t len, bool with_junk);
 uint32_t fluent_handle_nodes(struct FluentHandle *handle, const char *source, size_t len);
 uint32_t fluent_handle_occurrences(struct FluentHandle *handle, const char *source, size_t len);
 

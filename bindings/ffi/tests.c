@@ -154,6 +154,11 @@ static void test_lists(void) {
     CHECK(fluent_handle_nodes(empty, TEXT("a = b\n")) == FLUENT_READ);
     CHECK(shows(empty, "Identifier 0 1\nTextElement 4 5\nPattern 4 5\nMessage 0 5\n"));
     CHECK(fluent_handle_tree(empty, TEXT("\xff")) == FLUENT_NOT_UTF8);
+    const char *tree = "{\"body\":[{\"content\":\"!\",\"type\":\"Junk\"}],\"type\":\"Resource\"}";
+    CHECK(fluent_handle_written(empty, tree, strlen(tree), true) == FLUENT_READ && shows(empty, "!"));
+    CHECK(fluent_handle_written(empty, tree, strlen(tree), false) == FLUENT_READ && shows(empty, ""));
+    CHECK(fluent_handle_written(empty, NULL, 0, false) == FLUENT_NOT_JSON);
+    CHECK(fluent_handle_written(empty, TEXT("[]"), false) == FLUENT_NOT_TREE && shows(empty, ""));
     fluent_handle_free(empty);
     fluent_handle_free(handle);
 }

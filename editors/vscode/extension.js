@@ -73,7 +73,7 @@ class Server {
   /** Tells the server of documents, files, folders and settings. */
   follow() {
     const { workspace } = vscode;
-    const watcher = workspace.createFileSystemWatcher("**/*.ftl");
+    const watcher = workspace.createFileSystemWatcher("**/{*.ftl,l10n.toml}");
     const changed = (type) => (uri) =>
       this.connection.notify("workspace/didChangeWatchedFiles", { changes: [{ uri: uri.toString(), type }] });
     return [

@@ -1,4 +1,5 @@
 /* fluent_bundle_new_calling and fluent_bundle_call. */
+#include <stdio.h>
 #include <string.h>
 
 #include "tests.h"
@@ -148,6 +149,23 @@ static void try_as_if_none(struct Tally *tally, struct FluentBundle *bundle) {
     fluent_free_text(&texts.call);
 }
 
+/* Messages each of which refers to the next in a call, so that an answer nests deeper than any of them. */
+static void try_chain(struct Tally *tally, size_t stack, uint32_t status) {
+    static char text[1024];
+    char *at = text;
+    for (int i = 0; i < 10; i++)
+        at += sprintf(at, "m%d = { -term({ m%d }) }\n", i, i + 1);
+    at += sprintf(at, "m10 = end\n-term = Term\n");
+    const struct FluentSource source = {(const uint8_t *)text, (size_t)(at - text)};
+    const struct Row row = {"a chain", BYTES("m0"), NONE, {{0}}, 0, status, BYTES("Term"), {0}};
+    struct FluentBundleOptions options = FLUENT_BUNDLE_OPTIONS;
+    struct FluentBundle bundle = {0};
+    options.stack = stack;
+    count_try(tally, "a bundle of a chain", fluent_bundle_new_calling(&source, 1, &options, FUNCTIONS, 1, &bundle) == FLUENT_READ);
+    count_try(tally, row.name, is_right(&bundle, &row, false));
+    fluent_bundle_free(&bundle);
+}
+
 static bool try_making(void) {
     static const struct FluentSource other = BYTES("\xff");
     struct Tally made = {"fluent_bundle_new_calling", 0, 0};
@@ -179,5 +197,7 @@ bool try_calls(void) {
     try_as_if_none(&called, &bundle);
     fluent_bundle_free(&bundle);
     try_others(&called);
+    try_chain(&called, 20000, FLUENT_NO_MEMORY);
+    try_chain(&called, 1572864, FLUENT_READ);
     return is_made & print_tally(&called);
 }

@@ -79,6 +79,14 @@ static uint32_t call_with(struct Kept *kept, size_t answers) {
 }
 static uint32_t call_missing(struct Kept *kept) { return call_with(kept, 0); }
 static uint32_t call_answered(struct Kept *kept) { return call_with(kept, 1); }
+static uint32_t list_calls(struct Kept *kept) {
+    struct Kept calling = {.bundle = {0}};
+    uint32_t status = make_calling(&calling);
+    if (status == FLUENT_READ)
+        status = fluent_bundle_calls(&calling.bundle, TEXT("a"), TEXT(""), &ANSWER, 0, &ANSWER, 0, &kept->text);
+    fluent_bundle_free(&calling.bundle);
+    return status;
+}
 static uint32_t format_calling(struct Kept *kept) {
     struct Kept calling = {.bundle = {0}};
     uint32_t status = make_calling(&calling);
@@ -116,6 +124,12 @@ static uint32_t find_occurrences(struct Kept *kept) {
 static uint32_t find_nodes(struct Kept *kept) {
     return fluent_nodes(TEXT("# c\na = { $b ->\n *[d] e\n }\n .f = { -c(d: 1) } { F() }\ng@Rb@ge\n"), &kept->text);
 }
+static uint32_t write_from_json(struct Kept *kept) {
+    return fluent_write_tree(
+        TEXT("{\"body\":[{\"content\":[\"c\"],\"type\":\"Comment\"},{\"content\":\"!\",\"type\":\"Junk\"}],"
+             "\"syntax\":\"2\",\"type\":\"Resource\"}"),
+        true, &kept->text);
+}
 static uint32_t has(struct Kept *kept) { return fluent_bundle_has(&kept->bundle, TEXT("welcome"), TEXT("")); }
 
 static const struct {
@@ -137,6 +151,7 @@ static const struct {
     {"fluent_bundle_new_calling", make_calling},
     {"fluent_bundle_call without an answer", call_missing},
     {"fluent_bundle_call", call_answered},
+    {"fluent_bundle_calls", list_calls},
     {"fluent_bundle_format of a bundle with functions", format_calling},
     {"fluent_bundle_messages", messages},
     {"fluent_bundle_attributes", attributes},
@@ -151,6 +166,7 @@ static const struct {
     {"fluent_tidy of damage", find_damage},
     {"fluent_occurrences", find_occurrences},
     {"fluent_nodes", find_nodes},
+    {"fluent_write_tree", write_from_json},
 };
 
 static const struct Bytes TEXT_BEFORE = BYTES("\xe2\x81\xa8{$absent}\xe2\x81\xa9 and {nothing}");

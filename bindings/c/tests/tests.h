@@ -53,6 +53,7 @@ bool try_outlines(void);
 bool try_answers(void);
 bool try_bundles(void);
 bool try_calls(void);
+bool try_gathering(void);
 bool try_functions(void);
 bool try_formats(void);
 bool try_languages(void);
@@ -62,6 +63,7 @@ bool try_options(void);
 bool try_occurrences(void);
 bool try_nodes(void);
 bool try_tidying(void);
+bool try_trees(void);
 bool try_dates(void);
 bool try_refusals(void);
 

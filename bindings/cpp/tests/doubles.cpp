@@ -37,7 +37,7 @@ void is_that_of_c(double number) {
 
 // One number more than there are, so that this fails when the header gets another.
 void words_are_those_of_c() {
-    for (std::uint32_t number = 0; number <= FLUENT_CALL + 1; number++)
+    for (std::uint32_t number = 0; number <= FLUENT_NOT_TREE + 1; number++)
         SAME(std::string(fluent::words_of(static_cast<fluent::status>(number))), std::string(fluent_status_text(number)));
 }
 

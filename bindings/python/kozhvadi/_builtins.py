@@ -32,12 +32,23 @@ class Option(NamedTuple):
         return " or ".join(self.values) if isinstance(self.takes, tuple) else self.takes
 
 
+# How hours are counted, which counts next to a style, too.
+_CLOCK = ("hour12", "hourCycle")
+
+
 class Builtin(NamedTuple):
     """What is known of a function."""
 
     # What its first argument has to be.
     operand: str
     options: dict[str, Option]
+    # The options that stand for several others.
+    styles: tuple[str, ...] = ()
+
+    @property
+    def components(self) -> tuple[str, ...]:
+        """The options that don't count next to one of its styles."""
+        return tuple(name for name in self.options if self.styles and name not in (*self.styles, *_CLOCK))
 
     @property
     def is_of_number(self) -> bool:
@@ -54,25 +65,6 @@ _STYLES = ("full", "long", "medium", "short")
 _WIDTHS = ("narrow", "short", "long")
 _DIGITS = ("numeric", "2-digit")
 
-BUILTINS = {
-    "NUMBER": Builtin(
-        A_NUMBER,
-        {
-            "type": Option(("ordinal", "cardinal")),
-            "minimumFractionDigits": Option(A_NUMBER, "2"),
-            "maximumFractionDigits": Option(A_NUMBER, "0"),
-            "minimumIntegerDigits": Option(A_NUMBER, "2"),
-            "minimumSignificantDigits": Option(A_NUMBER, "2"),
-            "maximumSignificantDigits": Option(A_NUMBER, "3"),
-            "useGrouping": Option(("true", "false")),
-            "style": Option(("decimal", "percent", "currency")),
-            "currency": Option(ANY_TEXT, '"EUR"'),
-            "currencyDisplay": Option(("symbol", "code", "name")),
-        },
-    ),
-}
-
-# The function that each bundle of the package has besides.
 DATETIME = Builtin(
     A_DATE,
     {
@@ -92,7 +84,24 @@ DATETIME = Builtin(
         "fractionalSecondDigits": Option(A_NUMBER, "3"),
         "timeZoneName": Option(("short", "long", "shortOffset", "longOffset", "shortGeneric", "longGeneric")),
     },
+    ("dateStyle", "timeStyle"),
 )
 
-# What is known of all of these.
-KNOWN = {**BUILTINS, "DATETIME": DATETIME}
+BUILTINS = {
+    "NUMBER": Builtin(
+        A_NUMBER,
+        {
+            "type": Option(("ordinal", "cardinal")),
+            "minimumFractionDigits": Option(A_NUMBER, "2"),
+            "maximumFractionDigits": Option(A_NUMBER, "0"),
+            "minimumIntegerDigits": Option(A_NUMBER, "2"),
+            "minimumSignificantDigits": Option(A_NUMBER, "2"),
+            "maximumSignificantDigits": Option(A_NUMBER, "3"),
+            "useGrouping": Option(("true", "false")),
+            "style": Option(("decimal", "percent", "currency")),
+            "currency": Option(ANY_TEXT, '"EUR"'),
+            "currencyDisplay": Option(("symbol", "code", "name")),
+        },
+    ),
+    "DATETIME": DATETIME,
+}

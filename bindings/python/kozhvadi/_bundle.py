@@ -17,7 +17,7 @@ from . import _library as c
 from ._answers import Answer, resolver_errors
 from ._errors import FluentError, FluentWarning, MissingMessageError, SourceError, UnknownLocaleError
 from ._extension import calls_type
-from ._functions import Answers, Called, Functions, called_of, functions_of, is_rewritten, told_apart, with_dates
+from ._functions import Answers, Called, Functions, called_of, each_call, functions_of, is_rewritten, told_apart, with_dates
 from ._kept import Asking, Kept, kept_of, read
 from ._numbers import FluentNumber
 from ._reports import Sources, source_errors, too_deep
@@ -285,9 +285,18 @@ class Bundle:
                         kept.handle, key, len(key), name, len(name), array, count, *answers.given(),
                         texts.text, texts.errors, texts.call,
                     )
-            if answers is None or answered != c.CALL:
-                break
-            answers.add(c.string_of(texts.call))
+                if answers is None or answered != c.CALL:
+                    break
+                calls = [c.string_of(texts.call)]
+                # A message with one call isn't asked for others.
+                if answers.are_any:
+                    listed = c.library.fluent_bundle_calls(
+                        kept.handle, key, len(key), name, len(name), array, count, *answers.given(), texts.call
+                    )
+                    if listed == c.READ:
+                        calls = each_call(calls[0], c.string_of(texts.call))
+            for call in calls:
+                answers.add(call)
         if answered != c.READ:
             return answered
         errors = resolver_errors(c.string_of(texts.errors)) if texts.errors.held else []

@@ -17,11 +17,13 @@
 struct Found {
     __typeof__(&fluent_bundle_format) format;
     __typeof__(&fluent_bundle_call) call;
+    __typeof__(&fluent_bundle_calls) calls;
     __typeof__(&fluent_bundle_has) has;
     __typeof__(&fluent_free_text) free_text;
     newfunc new_tuple;
     PyObject *answer;
     PyObject *answers;
+    PyObject *each_call;
     PyObject *resolver_errors;
     PyObject *kind_and_text;
     PyObject *encoded;
@@ -219,10 +221,11 @@ static void free_answers(struct Answers *answers) {
     PyMem_Free(answers->list);
 }
 
-/* Makes room for one more answer, and what calls the functions if this is the first. */
+/* Makes room for this many more answers, and what calls the functions if these are the first. */
 static bool make_ready(
-    struct Found *found, PyObject *functions, PyObject *formatter, PyObject *given, struct Answers *answers) {
-    size_t size = ((size_t)answers->count + 1) * sizeof *answers->list;
+    struct Found *found, Py_ssize_t more, PyObject *functions, PyObject *formatter, PyObject *given,
+    struct Answers *answers) {
+    size_t size = (size_t)(answers->count + more) * sizeof *answers->list;
     struct FluentArgument *list = PyMem_Realloc(answers->list, size);
     if (!list) {
         PyErr_NoMemory();
@@ -250,7 +253,7 @@ static bool add_answer(struct Answers *answers, PyObject *call) {
 }
 
 /* What the library says: its status, and if there is an answer its text and the lines of its errors, or NULL; or the text of a
- * call. */
+ * call, and lines of it and those that are met whatever any of them gives, or NULL. */
 struct Said {
     uint32_t status;
     PyObject *text;
@@ -271,6 +274,16 @@ static uint32_t status_of(
         (size_t)arguments->count, list, (size_t)answers->count, &calls->text, &calls->errors, &calls->call);
 }
 
+/* Whether the library lists calls in lines. A message with one call isn't asked for others. */
+static bool lists_calls(
+    struct Calls *calls, const struct Names *names, const struct Arguments *arguments, const struct Answers *answers) {
+    return answers->count
+        && calls->found->calls(
+               calls->bundle, names->id, names->id_len, names->attribute, names->attribute_len, arguments->list,
+               (size_t)arguments->count, answers->list, (size_t)answers->count, &calls->call)
+            == FLUENT_READ;
+}
+
 /* Asks the library under the lock. Whatever comes back, what it says is to be freed. */
 static bool ask(
     struct Calls *calls, const struct Names *names, const struct Arguments *arguments, const struct Answers *answers,
@@ -280,13 +293,28 @@ static bool ask(
         return false;
     said->status = status_of(calls, names, arguments, answers);
     bool is_answer = said->status == FLUENT_READ, is_call = said->status == FLUENT_CALL;
-    bool has_lines = is_answer && calls->errors.held;
     if (is_answer || is_call)
         said->text = string_of(is_call ? &calls->call : &calls->text);
+    bool has_lines = is_call ? lists_calls(calls, names, arguments, answers) : is_answer && calls->errors.held;
     if (has_lines)
-        said->lines = string_of(&calls->errors);
+        said->lines = string_of(is_call ? &calls->call : &calls->errors);
     bool is_free = lock(calls->release);
     return is_free && (said->text || !(is_answer || is_call)) && (said->lines || !has_lines);
+}
+
+/* Calls the functions of the calls that the library says. */
+static bool answer_calls(
+    struct Found *found, const struct Said *said, PyObject *functions, PyObject *formatter, PyObject *given,
+    struct Answers *answers) {
+    if (!said->lines)
+        return make_ready(found, 1, functions, formatter, given, answers) && add_answer(answers, said->text);
+    PyObject *calls = PyObject_CallFunctionObjArgs(found->each_call, said->text, said->lines, NULL);
+    Py_ssize_t count = calls ? PyList_Size(calls) : 0;
+    bool is_answered = calls && make_ready(found, count, functions, formatter, given, answers);
+    for (Py_ssize_t each = 0; is_answered && each < count; each++)
+        is_answered = add_answer(answers, PyList_GetItem(calls, each));
+    Py_XDECREF(calls);
+    return is_answered;
 }
 
 /* An answer, or the status if there is none. Functions are called until each call that the answer meets has an answer: they
@@ -298,8 +326,9 @@ static PyObject *answered(
     struct Said said;
     bool is_said;
     while ((is_said = ask(calls, names, arguments, &answers, &said)) && said.status == FLUENT_CALL) {
-        is_said = make_ready(calls->found, functions, formatter, given, &answers) && add_answer(&answers, said.text);
+        is_said = answer_calls(calls->found, &said, functions, formatter, given, &answers);
         Py_CLEAR(said.text);
+        Py_CLEAR(said.lines);
         if (!is_said)
             break;
     }
@@ -441,10 +470,12 @@ static int fill_module(PyObject *module) {
     found->new_tuple = (newfunc)PyType_GetSlot(&PyTuple_Type, Py_tp_new);
     if (!(found->format = (__typeof__(found->format))address_of("fluent_bundle_format"))
         || !(found->call = (__typeof__(found->call))address_of("fluent_bundle_call"))
+        || !(found->calls = (__typeof__(found->calls))address_of("fluent_bundle_calls"))
         || !(found->has = (__typeof__(found->has))address_of("fluent_bundle_has"))
         || !(found->free_text = (__typeof__(found->free_text))address_of("fluent_free_text"))
         || !(found->answer = attribute_of("kozhvadi._answers", "Answer"))
         || !(found->answers = attribute_of("kozhvadi._functions", "Answers"))
+        || !(found->each_call = attribute_of("kozhvadi._functions", "each_call"))
         || !(found->resolver_errors = attribute_of("kozhvadi._answers", "resolver_errors"))
         || !(found->kind_and_text = attribute_of("kozhvadi._values", "kind_and_text"))
         || !(found->encoded = attribute_of("kozhvadi._values", "encoded")))
@@ -461,6 +492,7 @@ static int visit_module(PyObject *module, visitproc visit, void *arg) {
     struct Found *found = PyModule_GetState(module);
     Py_VISIT(found->answer);
     Py_VISIT(found->answers);
+    Py_VISIT(found->each_call);
     Py_VISIT(found->resolver_errors);
     Py_VISIT(found->kind_and_text);
     Py_VISIT(found->encoded);
@@ -471,6 +503,7 @@ static int clear_module(PyObject *module) {
     struct Found *found = PyModule_GetState(module);
     Py_CLEAR(found->answer);
     Py_CLEAR(found->answers);
+    Py_CLEAR(found->each_call);
     Py_CLEAR(found->resolver_errors);
     Py_CLEAR(found->kind_and_text);
     Py_CLEAR(found->encoded);

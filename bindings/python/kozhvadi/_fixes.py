@@ -7,7 +7,7 @@ from collections.abc import Iterable
 from difflib import get_close_matches
 from typing import NamedTuple
 
-from ._builtins import KNOWN
+from ._builtins import BUILTINS
 from ._linting import Finding
 from ._places import Places
 from ._samples import Catalog
@@ -80,7 +80,7 @@ def fixes(
 def _known(finding: Finding, written: str, catalog: Catalog, reference: Catalog, functions: Iterable[str]) -> list[str]:
     """The names that may have been meant."""
     if finding.code == "unknown-function":
-        return [*KNOWN, *functions]
+        return [*BUILTINS, *functions]
     if finding.code == "unknown-variable":
         return [f"${name}" for name in reference_variables(finding.entry or "", reference)]
     keys = [key for key in catalog.entries if key.startswith("-") == written.startswith("-")]

@@ -102,6 +102,11 @@ def _number(value: Any = None, *_others: Any, **options: Any) -> Any:
     return made
 
 
+def each_call(first: str, lines: str) -> list[str]:
+    """The first call, and those that the library lists in lines, each once. JSON has other ends of lines, too."""
+    return list(dict.fromkeys([first, *lines.split("\n")[:-1]]))
+
+
 class Answers:
     """The answers to the calls that a message met, and the errors of those whose function raised something."""
 
@@ -119,6 +124,11 @@ class Answers:
         # The objects that texts and digits stand for, once a function is called.
         self._objects: dict[tuple[int, str], object] | None = None
         self.errors: list[ResolverError] = []
+
+    @property
+    def are_any(self) -> bool:
+        """Whether there is an answer."""
+        return bool(self._made)
 
     def given(self) -> c.Arguments:
         """The answers, as the library takes them."""

@@ -20,6 +20,8 @@ DAMAGED = 9
 CARRIAGE_RETURN = 10
 NOT_TIDY = 11
 CALL = 12
+NOT_JSON = 13
+NOT_TREE = 14
 
 TEXT = 0
 DECIMAL = 1
@@ -184,6 +186,10 @@ def _load() -> ctypes.CDLL:
             bundle, ctypes.c_char_p, size, ctypes.c_char_p, size, ctypes.POINTER(FluentArgument), size,
             ctypes.POINTER(FluentArgument), size, text, text, text,
         ],
+        "fluent_bundle_calls": [
+            bundle, ctypes.c_char_p, size, ctypes.c_char_p, size, ctypes.POINTER(FluentArgument), size,
+            ctypes.POINTER(FluentArgument), size, text,
+        ],
         "fluent_bundle_has": [bundle, ctypes.c_char_p, size, ctypes.c_char_p, size],
         "fluent_bundle_messages": [bundle, text],
         "fluent_bundle_attributes": [bundle, ctypes.c_char_p, size, text],
@@ -199,6 +205,7 @@ def _load() -> ctypes.CDLL:
         "fluent_parse": [ctypes.c_char_p, size, ctypes.POINTER(FluentCounts)],
         "fluent_occurrences": [ctypes.c_char_p, size, text],
         "fluent_nodes": [ctypes.c_char_p, size, text],
+        "fluent_write_tree": [ctypes.c_char_p, size, ctypes.c_bool, text],
         "fluent_lint": [
             ctypes.POINTER(FluentFile), size, ctypes.POINTER(FluentFile), size, ctypes.POINTER(FluentLintOptions), text,
         ],

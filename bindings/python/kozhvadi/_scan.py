@@ -11,7 +11,7 @@ import re
 from dataclasses import dataclass, field
 from typing import NamedTuple
 
-from ._builtins import KNOWN, Builtin
+from ._builtins import BUILTINS, Builtin
 from ._occurrences import Occurrence, Symbol
 from ._stopping import go_on
 
@@ -151,7 +151,7 @@ class Inside(NamedTuple):
 
 def _called(callee: Symbol | None) -> Builtin | None:
     """What is known of the function that a call is of, if it comes with the library."""
-    return KNOWN.get(callee.name) if callee and callee.kind == "function" else None
+    return BUILTINS.get(callee.name) if callee and callee.kind == "function" else None
 
 
 def inside(source: bytes, offset: int) -> Inside:

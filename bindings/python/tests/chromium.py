@@ -68,7 +68,7 @@ class Browser:
             self._call("Browser.close")
         except (OSError, Failed, EOFError):
             self._process.kill()
-        self._process.wait(20)
+        self._process.wait(120)
         os.close(self._out)
         os.close(self._in)
         self._folder.cleanup()
@@ -95,7 +95,7 @@ class Browser:
         if event.get("method") == "Log.entryAdded" and params["entry"]["level"] == "error":
             self.problems.append(params["entry"]["text"])
 
-    def _read(self, patience=60):
+    def _read(self, patience=300):
         while b"\0" not in self._held:
             if not select.select([self._in], [], [], patience)[0]:
                 raise Failed("the browser doesn't answer")
@@ -117,7 +117,7 @@ class Browser:
             raise Failed(told["exceptionDetails"].get("exception", {}).get("description", told))
         return told["result"].get("value")
 
-    def until(self, script, patience=20):
+    def until(self, script, patience=120):
         """Waits until a script returns something true. Returns whether it did."""
         ends = time.monotonic() + patience
         while True:
@@ -142,7 +142,7 @@ class Browser:
             "windowsVirtualKeyCode": codes.get(key, ord(key[0].upper())),
         }
         modifiers = (8 if shift else 0) + (2 if control else 0)
-        text = {"text": {"Enter": "\r", " ": " "}[key]} if key in ("Enter", " ") else {}
+        text = {"text": {"Enter": "\r", " ": " "}[key]} if key in ("Enter", " ") and not control else {}
         self._call("Input.dispatchKeyEvent", type="keyDown", modifiers=modifiers, **named, **text)
         self._call("Input.dispatchKeyEvent", type="keyUp", modifiers=modifiers, **named)
 

@@ -131,7 +131,7 @@ def parameters(chance):
         "position": place,
         "newName": text,
         "range": {"start": place, "end": place},
-        "contentChanges": [{"text": text}],
+        "contentChanges": [changed(chance, text) for _ in range(chance.choice([1, 1, 2]))],
         "context": {"diagnostics": []},
         "query": text,
         "settings": value(chance, 2),
@@ -146,6 +146,14 @@ def parameters(chance):
     if chance.random() < 0.2:
         given[chance.choice(list(given))] = value(chance, 3)
     return given
+
+
+def changed(chance, text):
+    """A change of a document, or of what is in a range of it."""
+    if chance.random() < 0.5:
+        return {"text": text}
+    start, end = ({"line": chance.randrange(6), "character": chance.randrange(12)} for _ in range(2))
+    return {"range": {"start": start, "end": end}, "text": text}
 
 
 def message(chance):
@@ -213,7 +221,8 @@ def flat(count):
         uri = client.open("file:///tmp/none/en.ftl", lines)
         before = 0
         for number in range(count):
-            client.change(uri, f"{lines}new-{number} = {{ message-{number % 60} }}\n", number)
+            text = f"new-{number} = {{ message-{number % 60} }}\n"
+            change(client, uri, number, {"text": lines + text} if number % 5 == 0 else {"range": LAST, "text": text})
             client.diagnostics(uri, number)
             if number % 10 == 0:
                 place = {"line": 50, "character": number % 20}
@@ -223,6 +232,15 @@ def flat(count):
             if number == count // 10:
                 before = memory(client.process.pid)
         return memory(client.process.pid) - before
+
+
+# The line after the first 50.
+LAST = {"start": {"line": 50, "character": 0}, "end": {"line": 51, "character": 0}}
+
+
+def change(client, uri, version, change):
+    document = {"uri": uri, "version": version}
+    client.tell("textDocument/didChange", textDocument=document, contentChanges=[change])
 
 
 def memory(process):

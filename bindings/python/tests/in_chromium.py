@@ -15,8 +15,11 @@ from .test_playground import contrast
 
 EXAMPLES = Path(__file__).resolve().parents[3] / "examples"
 
+# The files of the README, which the pictures show, and longer ones.
+INBOX_POLISH = (EXAMPLES / "inbox.pl.ftl").read_text(encoding="utf-8")
+INBOX_ENGLISH = (EXAMPLES / "inbox.ftl").read_text(encoding="utf-8")
 POLISH = (
-    (EXAMPLES / "inbox.pl.ftl").read_text(encoding="utf-8")
+    INBOX_POLISH
     + """
 settings = Ustawienia
     .tooltip = Zmień wygląd programu { -brnad }
@@ -24,7 +27,7 @@ settings = Ustawienia
 """
 )
 ENGLISH = (
-    (EXAMPLES / "inbox.ftl").read_text(encoding="utf-8")
+    INBOX_ENGLISH
     + """settings = Settings
     .tooltip = Change how { -brand } looks
 -brand = Kozhvadi
@@ -335,7 +338,7 @@ class PageTest(unittest.TestCase):
         top = "Math.round(document.querySelector('.stack pre').getBoundingClientRect().top - $('source').getBoundingClientRect().top + $('source').scrollTop)"
         number = self.browser.run("Number(document.querySelector('.stack pre').style.counterReset.split(' ')[1])")
         self.assertEqual(self.browser.run(top), number * 23)
-        self.assertEqual(self.browser.run("document.querySelector('.stack pre').firstChild.textContent.trimEnd()"), source.split("\n")[number])
+        self.assertEqual(self.browser.run("document.querySelector('.stack pre').firstChild.textContent.trimEnd()"), source.split("\n")[number].rstrip())
         for letter in "quick":
             self.browser.type(letter)
         self.wait("document.querySelector('.message.current')?.dataset.id === 'quickmessage-1500'")
@@ -359,8 +362,9 @@ class PageTest(unittest.TestCase):
         self.begin()
         self.wait("document.querySelector('.nothing')")
         self.assertEqual(self.texts(".nothing button"), [])
-        self.begin(example="hello = Hello, { $name }!\n")
+        self.begin(examples=[["A greeting", "hello = Hello, { $name }!\n"], ["Nothing", ""]])
         self.wait("document.querySelector('.nothing button')")
+        self.assertEqual(self.texts(".nothing button"), ["A greeting", "Nothing"])
         self.browser.run("document.querySelector('.nothing button').click()")
         self.wait("document.querySelector('.message .text')")
         self.assertEqual(self.browser.run("$('source').value"), "hello = Hello, { $name }!\n")
@@ -370,6 +374,53 @@ class PageTest(unittest.TestCase):
         self.browser.run("URL.createObjectURL = (blob) => { blob.text().then((text) => (got = text)); return '#'; }; got = ''")
         self.browser.run("$('download').click()")
         self.wait("got === 'a = Ą\\n'")
+
+    def test_what_may_follow_is_offered(self):
+        self.begin("-brand = B\nhello = { $name }\n", locale="pl")
+        field = "document.getElementById('source')"
+        self.browser.run(f"{field}.focus(); {field}.setSelectionRange(99, 99)")
+        self.browser.type("bye = { ")
+        self.browser.press(" ", control=True)
+        self.wait("!$('choices').hidden")
+        offered = self.texts("#choices code")
+        self.assertEqual([each for each in offered if each in ("hello", "-brand", "NUMBER")], ["hello", "-brand", "NUMBER"])
+        # What is typed leaves those that begin with it. The list is at the caret.
+        self.browser.type("-b")
+        self.wait("[...document.querySelectorAll('#choices code')].map((each) => each.textContent).join() === '-brand'")
+        box = self.browser.run("(({ left, top }) => [left, top])($('choices').getBoundingClientRect())")
+        caret = self.browser.run(f"(({{ left, bottom }}) => [left, bottom])(paintedAt({field}, 37, 39).getBoundingClientRect())")
+        self.assertLess(abs(box[0] - caret[0]) + abs(box[1] - caret[1] - 4), 2)
+        self.browser.press("Enter")
+        self.wait(f"{field}.value.endsWith('bye = {{ -brand')")
+        self.assertTrue(self.browser.run("$('choices').hidden"))
+        self.browser.press(" ", control=True)
+        self.wait("!$('choices').hidden")
+        self.browser.press("Escape")
+        self.assertTrue(self.browser.run("$('choices').hidden"))
+        # Tab leaves the source if nothing is offered.
+        self.browser.press("Tab")
+        self.assertNotEqual(self.browser.run(FOCUSED), "source")
+
+    def test_the_pair_of_a_brace(self):
+        source = 'a = "{ $n ->\n    [one] { "}" }\n   *[other] { OWN($n, x: "{") }\n}"\nb = }\n'
+        self.begin(source)
+        # In `{ "}" }` the second brace is a letter, and so is the one in `x: "{"`.
+        braces = [number for number, letter in enumerate(source) if letter in "{}"]
+        for one, other in ((braces[0], braces[7]), (braces[1], braces[3]), (braces[4], braces[6])):
+            self.assertEqual(self.browser.run(f"[paired($('source').value, {one}), paired($('source').value, {other})]"), [[one, other]] * 2)
+        self.assertIsNone(self.browser.run(f"paired($('source').value, {source.index('b = }') + 4})"))
+        self.browser.run(f"$('source').focus(); $('source').setSelectionRange({braces[0]}, {braces[0]})")
+        self.wait("CSS.highlights.get('pair')?.size === 2")
+        self.assertEqual(self.browser.run("[...CSS.highlights.get('pair')].map(String)"), ["{", "}"])
+        self.browser.run("$('source').setSelectionRange(0, 0)")
+        self.wait("!CSS.highlights.get('pair')")
+
+    def test_how_messages_are_written(self):
+        self.begin()
+        self.browser.run("$('syntax').open = true")
+        self.assertIn("-brand = Kozhvadi", self.texts("#syntax dt"))
+        self.browser.size(400, 800)
+        self.assertLessEqual(self.browser.run("document.documentElement.scrollWidth"), 400)
 
     def test_tidying(self):
         self.begin("a   =   {$x}\n")
@@ -382,12 +433,12 @@ class PageTest(unittest.TestCase):
     def test_by_keyboard_alone(self):
         self.begin("a = { $x } { -b }\n")
         order = []
-        for _ in range(14):
+        for _ in range(15):
             self.browser.press("Tab")
             order.append(self.browser.run(FOCUSED))
         self.assertEqual(
             order[:12],
-            ["skip", "locale", "marks", "theme", "share", "tidy", "download", "source", "go", "SUMMARY", "name", "x"],
+            ["skip", "locale", "marks", "theme", "share", "tidy", "download", "source", "go", "SUMMARY", "SUMMARY", "name"],
             order,
         )
         self.browser.run(
@@ -482,7 +533,7 @@ class PageTest(unittest.TestCase):
                 self.assertGreaterEqual(contrast(hexed(colour), hexed(ground)), 4.5, (theme, text, colour, ground))
 
     def test_pictures(self):
-        self.begin(POLISH, ENGLISH, "pl")
+        self.begin(INBOX_POLISH, INBOX_ENGLISH, "pl")
         self.browser.run(
             "document.getElementById('source').focus(); document.getElementById('source').setSelectionRange(40, 40)"
         )

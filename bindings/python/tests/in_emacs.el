@@ -2,7 +2,7 @@
 ;; FOLDER, OUT and GUIDE are variables of the environment; GUIDE is a file with the lines of the guide.
 (require 'json)
 (require 'eglot)
-(setq eglot-sync-connect 30 eglot-connect-timeout 60 eglot-autoshutdown nil eglot-confirm-server-initiated-edits nil)
+(setq eglot-sync-connect 180 eglot-connect-timeout 180 eglot-autoshutdown nil eglot-confirm-server-initiated-edits nil)
 (load (getenv "GUIDE") nil t)
 
 ;; Nobody is there to be asked.
@@ -12,8 +12,8 @@
 (defun tell (name value) (push (cons name value) told))
 
 (defun await (condition)
-  "Wait until CONDITION returns something, for at most 60 seconds."
-  (let ((end (+ (float-time) 60)) got)
+  "Wait until CONDITION returns something, for at most 180 seconds."
+  (let ((end (+ (float-time) 180)) got)
     (while (and (not (setq got (funcall condition))) (< (float-time) end))
       (accept-process-output nil 0.05))
     got))

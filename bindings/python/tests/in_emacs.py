@@ -52,7 +52,7 @@ class EmacsTest(unittest.TestCase):
                 env={**os.environ, **env},
                 capture_output=True,
                 text=True,
-                timeout=300,
+                timeout=900,
                 check=False,
             )
             self.assertTrue(out.exists(), ran.stderr[-3000:])

@@ -8,7 +8,7 @@ end
 
 -- Waits until a condition holds.
 local function await(condition)
-    return vim.wait(30000, condition, 20)
+    return vim.wait(180000, condition, 20)
 end
 
 local function found()
@@ -62,7 +62,7 @@ tell("jumped to", { vim.fn.expand("%:t"), vim.fn.line("."), vim.fn.col(".") })
 vim.cmd("edit " .. FOLDER .. "/l10n/pl/main.ftl")
 
 go("unread")
-local hover = vim.lsp.buf_request_sync(0, "textDocument/hover", vim.lsp.util.make_position_params(), 30000)
+local hover = vim.lsp.buf_request_sync(0, "textDocument/hover", vim.lsp.util.make_position_params(), 180000)
 tell("hover", hover[client].result.contents.value)
 
 go("welcome")
@@ -82,16 +82,16 @@ params.context = { diagnostics = {} }
 go("$count")
 params = vim.lsp.util.make_range_params()
 params.context = { diagnostics = {} }
-local actions = vim.lsp.buf_request_sync(0, "textDocument/codeAction", params, 30000)[client].result
+local actions = vim.lsp.buf_request_sync(0, "textDocument/codeAction", params, 180000)[client].result
 tell("action", actions[1].title)
 vim.lsp.util.apply_workspace_edit(actions[1].edit, "utf-16")
 tell("mended", lines_of("l10n/pl/main.ftl"))
 
 vim.fn.append(vim.fn.line("$"), "last   =   {$x}")
 if vim.lsp.buf.format then
-    vim.lsp.buf.format({ timeout_ms = 30000 })
+    vim.lsp.buf.format({ timeout_ms = 180000 })
 else
-    vim.lsp.buf.formatting_sync(nil, 30000)
+    vim.lsp.buf.formatting_sync(nil, 180000)
 end
 tell("formatted", lines_of("l10n/pl/main.ftl"))
 

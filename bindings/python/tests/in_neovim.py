@@ -84,7 +84,7 @@ class NeovimTest(unittest.TestCase):
                 env={**os.environ, **home},
                 capture_output=True,
                 text=True,
-                timeout=300,
+                timeout=900,
                 check=False,
             )
             told = dict(map(json.loads, out.read_text(encoding="utf-8").splitlines())) if out.exists() else {}

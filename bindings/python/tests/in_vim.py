@@ -41,7 +41,7 @@ class VimTest(unittest.TestCase):
                 stdin=subprocess.DEVNULL,
                 capture_output=True,
                 text=True,
-                timeout=300,
+                timeout=900,
                 check=False,
             )
             self.assertTrue(told.exists(), ran.stdout[-2000:] + ran.stderr[-2000:])

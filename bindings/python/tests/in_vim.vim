@@ -19,7 +19,7 @@ function! Found() abort
 endfunction
 
 function! Await(condition) abort
-  let left = 600
+  let left = 3600
   while left && !eval(a:condition)
     sleep 50m
     let left -= 1

@@ -26,7 +26,7 @@ def framed(message):
 class Client:
     """A running server, which is killed if it takes longer than its patience, in seconds."""
 
-    def __init__(self, *words, log=subprocess.DEVNULL, patience=300):
+    def __init__(self, *words, log=subprocess.DEVNULL, patience=900):
         self.process = subprocess.Popen(
             [sys.executable, "-m", "kozhvadi.server", *words],
             stdin=subprocess.PIPE,
@@ -48,7 +48,7 @@ class Client:
         self._watch.cancel()
         self.process.stdin.close()
         self.process.stdout.close()
-        self.process.wait(30)
+        self.process.wait(120)
 
     def send(self, data):
         self.process.stdin.write(data)

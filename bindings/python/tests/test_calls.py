@@ -85,7 +85,7 @@ class CallsTest(unittest.TestCase):
 
         def asks(other):
             def shown(value):
-                met.wait(20)
+                met.wait(120)
                 return bundles[other].format("a", x=value[0]).text
 
             return shown
@@ -100,7 +100,7 @@ class CallsTest(unittest.TestCase):
         for thread in threads:
             thread.start()
         for thread in threads:
-            thread.join(20)
+            thread.join(120)
         self.assertEqual(texts, ["0", "1"])
 
     def test_names_may_be_texts_of_any_class(self):

@@ -2,6 +2,7 @@
 
 import tempfile
 import threading
+import time
 import unittest
 import warnings
 from datetime import datetime, timedelta
@@ -172,6 +173,38 @@ class FunctionsTest(unittest.TestCase):
             self.assertEqual(text, "{ASK()} {ASK()}")
             self.assertEqual([type(error.__cause__) for error in errors], [RecursionError] * 2)
             self.assertLess(len(asked), 5_000)
+
+    def test_each_different_call_is_made_once(self):
+        made = []
+
+        def called(*given):
+            made.append(given)
+            return given[0]
+
+        source = "a = { F(G(1), G(1), G(2), H(G(3))) } { G(4) ->\n    [4] { G(5) }\n   *[other] { G(6) }\n} { G(5) }\n"
+        bundle = Bundle(source, isolating=False, functions={"F": called, "G": called, "H": called})
+        self.assertEqual(bundle.format("a").text, "1 5 5")
+        self.assertEqual(sorted(made), [(1,), (1, 1, 2, 3), (2,), (3,), (3,), (4,), (5,)])
+
+    def test_calls_have_ends_of_lines(self):
+        source = 'a = { F("\u2028", "\u0085", "\\u000A") }{ F("x") }{ F("y") }\n'
+        bundle = Bundle(source, isolating=False, functions={"F": lambda *given: "|".join(given)})
+        self.assertEqual(bundle.format("a").text, "\u2028|\u0085|\nxy")
+
+    def test_many_calls_take_few_rounds(self):
+        rounds, each = 0, [f"G({n})" for n in range(3000)]
+
+        def ends(*given):
+            nonlocal rounds
+            rounds += 1
+            return len(given)
+
+        bundle = Bundle(f"a = {{ F({', '.join(each)}) }}\n", functions={"F": ends, "G": lambda n: n}, isolating=False)
+        began = time.perf_counter()
+        self.assertEqual(bundle.format("a").text, "3000")
+        # It takes some 0.1 s, and took half a minute when each call was a round.
+        self.assertLess(time.perf_counter() - began, 5)
+        self.assertEqual(rounds, 1)
 
     def test_names_that_no_message_calls(self):
         for name in ["f", "", "lower case", "_F", "1F", "F.G", "É", "F\n"]:

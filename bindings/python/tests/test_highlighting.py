@@ -234,7 +234,7 @@ class VimTest(EditorCase, unittest.TestCase):
             env={**env, "HOME": str(folder)},
             stdin=subprocess.DEVNULL,
             capture_output=True,
-            timeout=300,
+            timeout=900,
             check=False,
         )
         self.assertTrue(told.exists(), ran.stderr[-2000:])
@@ -286,7 +286,7 @@ class EmacsTest(EditorCase, unittest.TestCase):
             env={**env, "HOME": str(folder)},
             capture_output=True,
             text=True,
-            timeout=300,
+            timeout=900,
             check=False,
         )
         self.assertTrue((folder / "told").exists(), ran.stderr[-2000:])

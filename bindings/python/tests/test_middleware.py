@@ -74,7 +74,7 @@ class MiddlewareTest(unittest.TestCase):
         with subprocess.Popen(command, stdout=subprocess.PIPE, stderr=subprocess.DEVNULL, text=True, env=paths) as site:
             try:
                 request = urllib.request.Request(site.stdout.readline().strip() + "?name=Jane", headers={"Accept-Language": "fr"})
-                with urllib.request.urlopen(request, timeout=20) as answer:
+                with urllib.request.urlopen(request, timeout=300) as answer:
                     self.assertEqual(lines_of(answer.read().decode())[0], "Bienvenue, Jane.")
             finally:
                 site.kill()

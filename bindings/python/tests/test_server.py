@@ -53,7 +53,7 @@ class LifeTest(unittest.TestCase):
             self.assertEqual(client.ask("textDocument/hover")["code"], -32600)
             self.assertEqual(client.ask("shutdown")["code"], -32600)
             client.tell("exit")
-            self.assertEqual(client.process.wait(30), 0)
+            self.assertEqual(client.process.wait(120), 0)
 
     def test_the_end_of_its_input_and_exit_end_it(self):
         for end in ("exit", None):
@@ -63,7 +63,7 @@ class LifeTest(unittest.TestCase):
                     client.tell(end)
                 else:
                     client.process.stdin.close()
-                self.assertEqual(client.process.wait(30), 1)
+                self.assertEqual(client.process.wait(120), 1)
 
     def test_what_is_no_message_gets_an_error(self):
         with Client() as client:

@@ -251,7 +251,7 @@ class ParentTest(ExpectedCase):
         self.assertIsNone(self.client.process.poll())
         editor.kill()
         editor.wait()
-        self.assertEqual(self.client.process.wait(30), 1)
+        self.assertEqual(self.client.process.wait(120), 1)
 
     def test_a_process_that_isnt_there_isnt_watched(self):
         for process in (None, 2**31 - 1, 2**40, -1, 0, True, "1"):

@@ -118,8 +118,29 @@ class SignaturesTest(WorkspaceCase):
         self.assertEqual(told["signatures"][0]["label"], "-brand(case: , x: )")
         self.assertEqual(self.active(uri, source, 'case: "g'), "case")
 
+    def test_what_dates_take(self):
+        self.client.start(self.root)
+        source = 'a = { DATETIME($d, dateStyle: "full", hour12: "true") }\n'
+        uri = self.client.open(self.file("a.ftl", source))
+        label = self.help(uri, source, "DATETIME(")["signatures"][0]["label"]
+        self.assertTrue(label.startswith('DATETIME(a date, dateStyle: "full" or "long" or "medium" or "short", '), label)
+        self.assertEqual(self.active(uri, source, "DATETIME($d"), "a date")
+        self.assertEqual(self.active(uri, source, 'dateStyle: "f'), "dateStyle")
+        self.assertEqual(self.active(uri, source, "hour12: "), "hour12")
+
+    def test_what_a_function_of_the_program_is_called_with(self):
+        """Its arguments are those of its calls, first of all in the reference."""
+        self.client.start(self.root, functions=["OWN", "LONE"], reference="l10n/en-US")
+        self.file("l10n/en-US/b.ftl", 'q = { OWN($x, style: "a", of: NUMBER($n, minimumFractionDigits: 1)) }\n')
+        source = 'a = { OWN($x, size: 1) }\nb = { OWN($x, st }\nc = { LONE($x) }\n'
+        uri = self.client.open(self.file("l10n/pl/a.ftl", source))
+        told = self.help(uri, source, "a = { OWN(")
+        self.assertEqual(told["signatures"][0]["label"], "OWN(a value, style: , of: , size: )")
+        self.assertEqual(self.active(uri, source, "{ OWN($x, st"), "style")
+        self.assertEqual(self.help(uri, source, "LONE(")["signatures"][0]["label"], "LONE(a value)")
+
     def test_there_is_none_elsewhere(self):
-        self.client.start(self.root, functions=["OWN"])
+        self.client.start(self.root)
         source = "a = text ( { NUMBER($n) } )\nb = { OWN($x) }\nc = { -none(x: 1) }\n"
         uri = self.client.open(self.file("a.ftl", source))
         for words in ("text (", "NUMBER($n)", "{ OWN(", "-none(x", "a"):

@@ -14,6 +14,7 @@ from kozhvadi import _library as c
 from kozhvadi import occurrences, syntax
 from kozhvadi.syntax.errors import CODES
 from kozhvadi.syntax import FluentParser, FluentSerializer, Transformer, Visitor, ast, parse, serialize, visitor
+from kozhvadi.syntax._written import written
 
 ROWS = Path(__file__).resolve().parents[3] / "crates/all_rows/data/syntax"
 
@@ -50,6 +51,15 @@ def write(source, with_junk=False):
     written = c.string_of(made)
     c.library.fluent_free_text(made)
     return written
+
+
+def write_tree(json_text, with_junk=False):
+    """What the library writes of a tree that is given as JSON, or the number by which it refuses it."""
+    made, text = c.FluentText(), json_text.encode()
+    status = c.library.fluent_write_tree(text, len(text), with_junk, made)
+    found = c.string_of(made) if status == c.READ else status
+    c.library.fluent_free_text(made)
+    return found
 
 
 def nodes(root):
@@ -209,6 +219,85 @@ class Syntax(unittest.TestCase):
         """No blank is written at the end of a line."""
         blank = ast.Message(ast.Identifier("a"), ast.Pattern([ast.TextElement("\n\nb")]))
         self.assertEqual(serialize(ast.Resource([blank])), "a =\n\n\n    b\n")
+        self.assertEqual(FluentSerializer()._written_here(ast.Resource([blank])), "a =\n\n\n    b\n")
+
+    def test_trees_of_rows_are_written(self):
+        """Trees as the rows have them, also such as no source has."""
+        for row in rows("parse", "trees"):
+            if "written" in row:
+                tree = json.dumps(row["tree"])
+                with self.subTest(tree=tree):
+                    self.assertEqual(write_tree(tree), row["written"])
+                    self.assertEqual(write_tree(tree, with_junk=True), row["written_with_junk"])
+        self.assertEqual(write_tree("{"), c.NOT_JSON)
+        self.assertEqual(write_tree("{}"), c.NOT_TREE)
+
+    def test_the_library_writes_trees(self):
+        """What is written here is the same as what the library writes."""
+        for source in SOURCES:
+            for with_junk in (False, True):
+                with self.subTest(source=source, with_junk=with_junk):
+                    text = written(parse(source), with_junk)
+                    self.assertEqual(text, FluentSerializer(with_junk)._written_here(parse(source)))
+
+    def test_trees_that_the_library_does_not_take(self):
+        """Half a pair of surrogates, a select as an argument, a term without a value, a deep tree, classes of a program."""
+
+        class Named(ast.Message):
+            pass
+
+        one = ast.SelectExpression(ast.NumberLiteral("1"), [])
+        deep = ast.StringLiteral("x")
+        for _ in range(126):
+            deep = ast.Placeable(deep)
+        for entry, text in (
+            (ast.Message(ast.Identifier("a"), ast.Pattern([ast.TextElement("\ud800")])), "a = \ud800\n"),
+            (self.showing(ast.FunctionReference(ast.Identifier("F"), ast.CallArguments([one]))), "a = { F(1 ->\n    ) }\n"),
+            (ast.Term(ast.Identifier("a"), None), "-a =\n"),
+            (self.showing(deep), "a = {{ " + "{" * 125 + '"x"' + "}" * 125 + " }}\n"),
+            (Named(ast.Identifier("a"), ast.Pattern([ast.TextElement("b")])), "a = b\n"),
+        ):
+            resource = ast.Resource([entry])
+            with self.subTest(text=text):
+                self.assertIsNone(written(resource, False))
+                self.assertEqual(serialize(resource), text)
+
+    def showing(self, expression):
+        """A message that shows an expression."""
+        return ast.Message(ast.Identifier("a"), ast.Pattern([ast.Placeable(expression)]))
+
+    def test_spans_are_visited(self):
+        """By a visitor that does something with them; others pass them over."""
+
+        class Places(Visitor):
+            def __init__(self):
+                self.found = []
+
+            def visit_Span(self, node):
+                self.found.append((node.start, node.end))
+
+        class Kinds(Visitor):
+            def __init__(self):
+                self.found = []
+
+            def generic_visit(self, node):
+                self.found.append(type(node).__name__)
+                super().generic_visit(node)
+
+        class Visited(Kinds):
+            generic_visit = Visitor.generic_visit
+
+            def visit(self, node):
+                self.found.append(type(node).__name__)
+                super().visit(node)
+
+        places, kinds, visited = Places(), Kinds(), Visited()
+        for each in (places, kinds, visited):
+            each.visit(parse("a = b\n"))
+        self.assertEqual(places.found, [(0, 6), (0, 5), (0, 1), (4, 5), (4, 5)])
+        below = ["Resource", "Span", "Message", "Span", "Identifier", "Span", "Pattern", "Span", "TextElement", "Span"]
+        self.assertEqual(kinds.found, below)
+        self.assertEqual([kind for kind in visited.found if kind != "list"], below)
 
     def test_a_serializer_of_a_program(self):
         class Short(FluentSerializer):
@@ -216,6 +305,39 @@ class Syntax(unittest.TestCase):
                 return f"{entry.id.name}\n"
 
         self.assertEqual(Short().serialize(parse("a = 1\nb = 2\n")), "a\nb\n")
+
+    def test_spans_are_visited(self):
+        """By a visitor that does something with them; others pass them over."""
+
+        class Places(Visitor):
+            def __init__(self):
+                self.found = []
+
+            def visit_Span(self, node):
+                self.found.append((node.start, node.end))
+
+        class Kinds(Visitor):
+            def __init__(self):
+                self.found = []
+
+            def generic_visit(self, node):
+                self.found.append(type(node).__name__)
+                super().generic_visit(node)
+
+        class Visited(Kinds):
+            generic_visit = Visitor.generic_visit
+
+            def visit(self, node):
+                self.found.append(type(node).__name__)
+                super().visit(node)
+
+        places, kinds, visited = Places(), Kinds(), Visited()
+        for each in (places, kinds, visited):
+            each.visit(parse("a = b\n"))
+        self.assertEqual(places.found, [(0, 6), (0, 5), (0, 1), (4, 5), (4, 5)])
+        below = ["Resource", "Span", "Message", "Span", "Identifier", "Span", "Pattern", "Span", "TextElement", "Span"]
+        self.assertEqual(kinds.found, below)
+        self.assertEqual([kind for kind in visited.found if kind != "list"], below)
 
     def test_files_of_a_corpus(self):
         """Files of the folder that CORPUS names."""
@@ -225,6 +347,7 @@ class Syntax(unittest.TestCase):
             self.check_places(source)
             self.check_names(source)
             self.assertEqual(serialize(parse(source)), write(source))
+            self.assertEqual(FluentSerializer()._written_here(parse(source)), write(source))
 
     def test_documented_examples(self):
         """Programs in the manner of the documentation of `fluent.syntax`, with another import."""

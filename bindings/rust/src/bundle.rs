@@ -3,7 +3,7 @@
 use crate::args::{FluentArgs, NONE};
 use crate::call::{Answering, Functions};
 use crate::custom::{Customs, Transform};
-use crate::date_time::shown_in;
+use crate::date_time::{shown_in, Locales};
 use crate::entries::{Asking, Entries, Held};
 use crate::errors::{EntryKind, FluentError};
 use crate::fixed::FixedTexts;
@@ -93,11 +93,11 @@ impl<R: Borrow<FluentResource>> FluentBundle<R, IntlLangMemoizer> {
         let rules = tags.iter().find(|locale| is_tag(locale)).cloned().unwrap_or_default();
         FluentBundle {
             locales: tags.into_iter().map(LanguageIdentifier::of).collect(),
+            intls: IntlLangMemoizer::of(&rules),
             rules,
             isolating: true,
             plain_numbers: false,
             stack: 0,
-            intls: *IntlLangMemoizer::marker(),
             formatter: None,
             transform: None,
             resources: Vec::new(),
@@ -419,7 +419,9 @@ impl<R: Borrow<FluentResource>, M> FluentBundle<R, M> {
     fn fixed_text<'p>(&'p self, pattern: &'p Pattern) -> Option<&'p str> {
         let own = self.own(pattern)?;
         self.fixed.get(own, self.entries.numbers(), || {
-            let shown = |text: &str| Customs::default().shown(text, self.transform, "").map(String::into_boxed_str);
+            let shown = |text: &str| {
+                Customs::default().shown(text, self.transform, Locales::default()).map(String::into_boxed_str)
+            };
             let fixed = |text: &mut Text, errors: &str| {
                 errors.is_empty().then(|| shown(text.as_str()).unwrap_or_else(|| text.as_str().into()))
             };
@@ -459,7 +461,7 @@ impl<R: Borrow<FluentResource>, M> FluentBundle<R, M> {
             if !lines.is_empty() {
                 errors.extend(lines.split_terminator('\n').map(|line| ResolverError::of_line(line).into()));
             }
-            match answering.customs.shown(text.as_str(), self.transform, self.date_locale()) {
+            match answering.customs.shown(text.as_str(), self.transform, self.locales()) {
                 Some(text) => Formatted::Shown(text),
                 None => Formatted::Taken(took(text)),
             }
@@ -489,18 +491,15 @@ impl<R: Borrow<FluentResource>, M> FluentBundle<R, M> {
             FluentValue::Number(number) if self.transform.is_some() || number.has_more_options() => {
                 Some(self.number_shown(number))
             }
-            FluentValue::Custom(value) => Some(shown_in(&**value, self.date_locale())),
+            FluentValue::Custom(value) => Some(shown_in(&**value, self.locales())),
             _ => None,
         })
     }
 
-    /// The locale that writes dates, which are written plainly if numbers are.
-    fn date_locale(&self) -> &str {
-        if self.plain_numbers {
-            ""
-        } else {
-            &self.rules
-        }
+    /// The locales that write values of the program's own. Dates are written plainly if numbers are.
+    fn locales(&self) -> Locales<'_> {
+        let dates = if self.plain_numbers { "" } else { &*self.rules };
+        Locales { dates, formatters: &self.rules }
     }
 
     /// Whether messages may call the `DATETIME` that each bundle has.
@@ -511,20 +510,28 @@ impl<R: Borrow<FluentResource>, M> FluentBundle<R, M> {
 
     /// A number as the library's `NUMBER` shows it by all its options.
     fn number_shown(&self, number: &FluentNumber) -> String {
+        self.of_number("number", number).unwrap_or_else(|| number.as_string().into_owned())
+    }
+
+    /// The plural category of a number, such as `one`, or `None` if it is none of the library's numbers.
+    pub(crate) fn category(&self, number: &FluentNumber) -> Option<String> {
+        self.of_number("category", number)
+    }
+
+    /// What the library says of a number with all its options: its text, or its plural category.
+    fn of_number(&self, id: &str, number: &FluentNumber) -> Option<String> {
         if number.is_text() {
-            return number.as_string().into_owned();
+            return None;
         }
         let options = number.options.as_arguments();
         let mut numbers = self.numbers.lock().unwrap_or_else(PoisonError::into_inner);
         let kept = numbers.entry(options).or_insert_with_key(|options| {
-            let source = format!("number = {{ NUMBER($number{options}) }}\n");
+            let source = number_source(options);
             let settings = Settings { isolating: false, ..self.settings(false) };
             Kept::of(&[&source], &self.rules, settings, &[]).unwrap_or_else(|| out_of_memory())
         });
-        let pattern = Pattern::of_id("number");
         let args = FluentArgs::from_iter([("number", number.without_options())]);
-        let text = kept.format(&pattern, &args, |_| None, |text, _| text.as_str().to_owned());
-        text.unwrap_or_else(|_| number.as_string().into_owned())
+        kept.format(&Pattern::of_id(id), &args, |_| None, |text, _| text.as_str().to_owned()).ok()
     }
 
     fn settings(&self, last_counts: bool) -> Settings {
@@ -584,6 +591,13 @@ impl<R: Borrow<FluentResource>, M> FluentBundle<R, M> {
         self.fixed = FixedTexts::default();
         self.numbers.get_mut().unwrap_or_else(PoisonError::into_inner).clear();
     }
+}
+
+/// A source whose messages show a number with these options, and its plural category.
+fn number_source(options: &str) -> String {
+    let categories = ["zero", "one", "two", "few", "many"].map(|name| format!("    [{name}] {name}\n")).concat();
+    let number = format!("NUMBER($number{options})");
+    format!("number = {{ {number} }}\ncategory = {{ {number} ->\n{categories}   *[other] other\n}}\n")
 }
 
 /// The text of a pattern.

@@ -117,6 +117,7 @@ pub struct FluentDate {
 extern "C" {
     pub fn fluent_outline(text: *const u8, len: usize, made: *mut FluentText, counts: *mut FluentCounts) -> u32;
     pub fn fluent_tidy(text: *const u8, len: usize, made: *mut FluentText, place: *mut FluentPlace) -> u32;
+    pub fn fluent_write_tree(json: *const u8, len: usize, with_junk: bool, made: *mut FluentText) -> u32;
     pub fn fluent_nodes(text: *const u8, len: usize, made: *mut FluentText) -> u32;
     pub fn fluent_occurrences(text: *const u8, len: usize, made: *mut FluentText) -> u32;
     pub fn fluent_lint(
@@ -154,6 +155,18 @@ extern "C" {
         text: *mut FluentText,
         errors: *mut FluentText,
         call: *mut FluentText,
+    ) -> u32;
+    pub fn fluent_bundle_calls(
+        bundle: *mut FluentBundle,
+        id: *const u8,
+        id_len: usize,
+        attribute: *const u8,
+        attribute_len: usize,
+        arguments: *const FluentArgument,
+        argument_count: usize,
+        answers: *const FluentArgument,
+        answer_count: usize,
+        calls: *mut FluentText,
     ) -> u32;
     pub fn fluent_bundle_format(
         bundle: *mut FluentBundle,

@@ -1,6 +1,6 @@
 //! Values of a program's own, on their way through the library, which has texts and numbers alone.
 
-use crate::date_time::shown_in;
+use crate::date_time::{shown_in, Locales};
 use crate::value::FluentType;
 use std::borrow::Cow;
 use std::hash::{BuildHasher, RandomState};
@@ -60,18 +60,18 @@ impl Customs {
         self.0.get(usize::from_str_radix(number, 16).ok()?)
     }
 
-    /// A text in which values are shown as in a bundle of a locale, and what is around them is changed, or `None` if that is
-    /// the text as it is.
+    /// A text in which values are shown as in a bundle of these locales, and what is around them is changed, or `None` if
+    /// that is the text as it is.
     #[inline]
-    pub(crate) fn shown(&self, text: &str, transform: Option<Transform>, locale: &str) -> Option<String> {
+    pub(crate) fn shown(&self, text: &str, transform: Option<Transform>, locales: Locales<'_>) -> Option<String> {
         if self.0.is_empty() && transform.is_none() {
             return None;
         }
-        self.replaced(text, transform, locale)
+        self.replaced(text, transform, locales)
     }
 
     #[inline(never)]
-    fn replaced(&self, text: &str, transform: Option<Transform>, locale: &str) -> Option<String> {
+    fn replaced(&self, text: &str, transform: Option<Transform>, locales: Locales<'_>) -> Option<String> {
         if transform.is_none() && !text.contains(MARK) {
             return None;
         }
@@ -82,7 +82,7 @@ impl Customs {
             match self.of_number(part).filter(|_| parts.peek().is_some()) {
                 Some(held) => {
                     match held {
-                        Held::Value(value) => made.push_str(&shown_in(&**value, locale)),
+                        Held::Value(value) => made.push_str(&shown_in(&**value, locales)),
                         Held::Shown(shown) => made.push_str(shown),
                     }
                     push_text(&mut made, parts.next().unwrap_or_default(), transform);
@@ -143,18 +143,21 @@ mod tests {
         assert_eq!(customs.value(&second).map(|day| format!("{day:?}")).as_deref(), Some("Day(2)"));
         for text in ["", "\u{fdd0}", "\u{fdd0}0\u{fdd0}", "Day(1)"] {
             assert!(customs.value(text).is_none(), "{text:?}");
-            assert_eq!(customs.shown(text, None, "").as_deref().unwrap_or(text), text);
+            assert_eq!(customs.shown(text, None, Locales::default()).as_deref().unwrap_or(text), text);
         }
         let text = format!("\u{fdd0}{second}{first}, {first}\u{fdd0}");
-        assert_eq!(customs.shown(&text, None, "").as_deref(), Some("\u{fdd0}day 2day 1, day 1\u{fdd0}"));
-        assert_eq!(Customs::default().shown(&text, None, ""), None);
+        assert_eq!(
+            customs.shown(&text, None, Locales::default()).as_deref(),
+            Some("\u{fdd0}day 2day 1, day 1\u{fdd0}")
+        );
+        assert_eq!(Customs::default().shown(&text, None, Locales::default()), None);
     }
 
     #[test]
     fn texts_around_values_are_changed() {
         let mut customs = Customs::default();
         let text = format!("one \u{2068}{}\u{2069}\ntwo", customs.token_of_text("Jane".to_owned()));
-        let shown = customs.shown(&text, Some(|text| format!("<{text}>").into()), "");
+        let shown = customs.shown(&text, Some(|text| format!("<{text}>").into()), Locales::default());
         assert_eq!(shown.as_deref(), Some("<one >\u{2068}Jane\u{2069}<\n><two>"));
     }
 }

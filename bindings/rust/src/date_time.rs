@@ -272,11 +272,20 @@ impl From<FluentDateTime> for FluentValue<'_> {
     }
 }
 
-/// The text of a value of the program's own, in a bundle of this locale: that of a date is as the locale writes it.
-pub(crate) fn shown_in(value: &(dyn FluentType + Send), locale: &str) -> String {
+/// The locales of a bundle by which values of the program's own are shown.
+#[derive(Clone, Copy, Default)]
+pub(crate) struct Locales<'b> {
+    /// That which writes dates, or the empty one if they are written plainly.
+    pub dates: &'b str,
+    /// That of the formatters of the program, which may be empty.
+    pub formatters: &'b str,
+}
+
+/// The text of a value of the program's own, in a bundle of these locales: that of a date is as the locale writes it.
+pub(crate) fn shown_in(value: &(dyn FluentType + Send), locales: Locales<'_>) -> String {
     match value.as_any().downcast_ref::<FluentDateTime>() {
-        Some(date) => date.text_in(locale),
-        None => value.as_string(IntlLangMemoizer::marker()).into_owned(),
+        Some(date) => date.text_in(locales.dates),
+        None => value.as_string(&IntlLangMemoizer::of(locales.formatters)).into_owned(),
     }
 }
 

@@ -99,7 +99,7 @@ impl Kept {
         mut answer: impl FnMut(&str) -> Option<FluentValue<'static>>,
         took: impl FnOnce(&mut Text, &str) -> T,
     ) -> Result<T, Refusal> {
-        let mut answers = None;
+        let mut answers: Option<FluentArgs<'static>> = None;
         loop {
             let mut asked = self.asked();
             let answered = asked.ask(pattern, args, answers.as_ref().unwrap_or(NONE));
@@ -112,10 +112,20 @@ impl Kept {
                 c::FLUENT_NO_MEMORY => return Err(Refusal::Memory),
                 _ => return Err(Refusal::NoPattern),
             }
-            let call = asked.call.as_str().to_owned();
+            let mut calls = asked.call.as_str().to_owned();
+            // A message with one call isn't asked for others.
+            if let Some(answers) = &answers {
+                asked.list_calls(pattern, args, answers, &mut calls);
+            }
             drop(asked);
-            let value = answer(&call).ok_or(Refusal::Call)?;
-            answers.get_or_insert_with(FluentArgs::new).set(call, value);
+            let answers = answers.get_or_insert_with(FluentArgs::new);
+            for call in calls.lines() {
+                // A call that the message meets twice is listed twice.
+                if answers.get(call).is_none() {
+                    let value = answer(call).ok_or(Refusal::Call)?;
+                    answers.set(call.to_owned(), value);
+                }
+            }
         }
     }
 
@@ -192,6 +202,34 @@ impl Asked {
                 }
             })
         })
+    }
+}
+
+impl Asked {
+    /// Puts the calls without an answer that a pattern meets whatever any of them gives after the first of them, each
+    /// in a line, unless memory is refused.
+    fn list_calls(&mut self, pattern: &Pattern, args: &FluentArgs<'_>, answers: &FluentArgs<'_>, calls: &mut String) {
+        let Asked { handle, call, .. } = self;
+        let (id, name) = (pattern.id(), pattern.attribute());
+        let (id, id_len, name, name_len) = (id.as_ptr(), id.len(), name.as_ptr(), name.len());
+        let made = call.place();
+        let listed = args.with_c(|args| {
+            answers.with_c(|answers| {
+                let (arguments, count) = (args.as_ptr(), args.len());
+                let (answers, answered) = (answers.as_ptr(), answers.len());
+                // SAFETY: each pointer is that of a slice of the length next to it, and the handle holds a bundle, which
+                // is lent by `&mut`.
+                unsafe {
+                    c::fluent_bundle_calls(
+                        handle, id, id_len, name, name_len, arguments, count, answers, answered, made,
+                    )
+                }
+            })
+        });
+        if listed == c::FLUENT_READ {
+            calls.push('\n');
+            calls.push_str(call.as_str());
+        }
     }
 }
 

@@ -1,6 +1,7 @@
 //! Which of a program's languages are used for a user's.
 
 use crate::c;
+use crate::unic_langid::{LanguageIdentifier, LanguageIdentifierError};
 use std::{env, fmt};
 
 /// How many of a program's languages are used.
@@ -160,6 +161,38 @@ pub fn accepted_languages(header: &str) -> Vec<String> {
     weighed.retain(|(tag, weight)| !matches!(*tag, "" | "*") && *weight > 0.0);
     weighed.sort_by(|(_, weight), (_, other)| other.total_cmp(weight));
     weighed.into_iter().map(|(tag, _)| tag.to_owned()).collect()
+}
+
+/// The tags of languages in an HTTP header `Accept-Language`, in their order, as in the crate `fluent-langneg`: weights
+/// don't count, and what is no tag is left out. [`accepted_languages`] counts weights.
+///
+/// ```
+/// use kozhvadi::unic_langid::langids;
+///
+/// assert_eq!(kozhvadi::parse_accepted_languages("fr;q=0.5, de-AT, *"), langids!["fr", "de-AT"]);
+/// ```
+pub fn parse_accepted_languages(header: &str) -> Vec<LanguageIdentifier> {
+    let tags = header.split(',').filter_map(|part| part.split(';').next());
+    convert_vec_str_to_langids_lossy(tags.map(str::trim))
+}
+
+/// The tags that texts are.
+///
+/// # Errors
+/// If one of them is none.
+pub fn convert_vec_str_to_langids<I>(tags: I) -> Result<Vec<LanguageIdentifier>, LanguageIdentifierError>
+where
+    I: IntoIterator<Item: AsRef<[u8]>>,
+{
+    tags.into_iter().map(|tag| LanguageIdentifier::from_bytes(tag.as_ref())).collect()
+}
+
+/// The tags that texts are. Those that are none are left out.
+pub fn convert_vec_str_to_langids_lossy<I>(tags: I) -> Vec<LanguageIdentifier>
+where
+    I: IntoIterator<Item: AsRef<[u8]>>,
+{
+    tags.into_iter().filter_map(|tag| LanguageIdentifier::from_bytes(tag.as_ref()).ok()).collect()
 }
 
 /// A language and its weight.

@@ -9,7 +9,8 @@
 //! - [`FluentMessage`] is a message of a bundle.
 //! - [`FluentArgs`] are the arguments of a message.
 //! - [`negotiate_languages`] finds which of a program's languages suit a user, and [`Localization`] asks their bundles.
-//! - [`FluentResource::entries`] is the tree of a source, of [`ast`], and [`visit`] walks over it.
+//! - [`FluentResource::entries`] is the tree of a source, of [`ast`], and [`visit`] walks over it;
+//!   [`serializer`] writes one.
 //! - [`lint()`] finds what is wrong with the files of a catalog, [`tidy`] formats a source, and
 //!   [`occurrences()`] says where its names are.
 //!
@@ -54,11 +55,12 @@ mod message;
 mod number;
 mod occurrences;
 mod options;
-mod parser;
+pub mod parser;
 mod report;
 pub mod resolver;
 mod resource;
 mod rewriting;
+pub mod serializer;
 mod text;
 mod tidying;
 mod tree;
@@ -74,7 +76,10 @@ struct Page;
 pub use args::FluentArgs;
 pub use bundle::UnknownLocale;
 pub use errors::{EntryKind, FluentError};
-pub use languages::{accepted_languages, has_plural_rules, negotiate_languages, system_languages, NegotiationStrategy};
+pub use languages::{
+    accepted_languages, convert_vec_str_to_langids, convert_vec_str_to_langids_lossy, has_plural_rules,
+    negotiate_languages, parse_accepted_languages, system_languages, NegotiationStrategy,
+};
 pub use linting::{lint, FileCounts, Finding, LintError, LintOptions, Report, Severity};
 pub use localization::{AsBundle, L10nAttribute, L10nKey, L10nMessage, Localization, LocalizationError};
 pub use message::{FluentAttribute, FluentMessage, Pattern};
@@ -96,7 +101,7 @@ pub mod concurrent {
 
 /// The names of the crate `intl-memoizer`.
 pub mod intl_memoizer {
-    pub use crate::memoizer::IntlLangMemoizer;
+    pub use crate::memoizer::{IntlLangMemoizer, IntlMemoizer, Memoizable};
 
     /// Memoizers that threads share: each is one.
     pub mod concurrent {

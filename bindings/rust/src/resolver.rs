@@ -1,11 +1,31 @@
 //! What goes wrong while a message is formatted.
 
+use crate::args::FluentArgs;
+use crate::bundle::FluentBundle;
+use crate::errors::FluentError;
 use std::error::Error;
 use std::fmt;
 
 /// The errors, under the path that `fluent-bundle` has for them.
 pub mod errors {
     pub use super::{ReferenceKind, ResolverError};
+}
+
+/// What values are compared in: a bundle, whose locale says which plural category a number has.
+pub struct Scope<'bundle, R, M> {
+    /// The bundle.
+    pub bundle: &'bundle FluentBundle<R, M>,
+}
+
+impl<'bundle, R, M> Scope<'bundle, R, M> {
+    /// That of a bundle. The arguments and errors are there for programs that use `fluent-bundle`, and do nothing.
+    pub fn new(
+        bundle: &'bundle FluentBundle<R, M>,
+        _args: Option<&FluentArgs<'_>>,
+        _errors: Option<&mut Vec<FluentError>>,
+    ) -> Self {
+        Scope { bundle }
+    }
 }
 
 /// What an expression refers to, and isn't there.

@@ -171,7 +171,15 @@ macro_rules! langid {
     };
 }
 
-pub use crate::langid;
+/// The tags of several languages: `langids!["en-US", "pl"]`. The program ends if a text is none.
+#[macro_export]
+macro_rules! langids {
+    ($($tag:expr),* $(,)?) => {
+        vec![$($crate::langid!($tag)),*]
+    };
+}
+
+pub use crate::{langid, langids};
 
 #[cfg(test)]
 mod tests {

@@ -5,11 +5,12 @@ use kozhvadi as fluent_bundle;
 use kozhvadi::{intl_memoizer, unic_langid};
 
 use fluent_bundle::memoizer::MemoizerKind;
+use fluent_bundle::resolver::Scope;
 use fluent_bundle::types::{FluentNumber, FluentNumberOptions, FluentType};
 use fluent_bundle::{fluent_args, FluentArgs, FluentBundle, FluentError, FluentResource, FluentValue};
 use std::borrow::{Borrow, Cow};
 use std::sync::Arc;
-use unic_langid::{langid, LanguageIdentifier};
+use unic_langid::{langid, langids, LanguageIdentifier};
 
 /// A bundle of a source, in English.
 fn english(source: &str) -> FluentBundle<FluentResource> {
@@ -278,4 +279,91 @@ fn a_small_stack_is_enough_for_a_small_budget() {
         text(&bundle, "a", Some(&fluent_args!["n" => 1])).0
     });
     assert_eq!(asked.expect("The thread is made.").join().expect("It doesn't end."), "A 1");
+}
+
+/// As in the tests of `fluent-bundle`: Najdi Arabic has each plural category.
+#[test]
+fn values_are_matched() {
+    let bundle: FluentBundle<FluentResource> = FluentBundle::new(vec![langid!("ars")]);
+    let scope = Scope::new(&bundle, None, None);
+    let matches = |key: &FluentValue, value: &FluentValue| key.matches(value, &scope);
+    let (text, other) = (FluentValue::from("string1"), FluentValue::from("string2"));
+    let (number, minus) = (FluentValue::from(23.5), FluentValue::from(-23));
+    assert!(matches(&text, &text.clone()) && !matches(&text, &other));
+    assert!(matches(&number, &number.clone()) && !matches(&number, &minus));
+    assert!(!matches(&number, &text) && !matches(&text, &number) && !matches(&FluentValue::None, &FluentValue::None));
+    for (name, n) in [("zero", 0), ("one", 1), ("two", 2), ("few", 3), ("many", 11), ("other", 101)] {
+        assert!(matches(&FluentValue::from(name), &FluentValue::from(n)), "{name} {n}");
+        assert!(!matches(&FluentValue::from(name), &FluentValue::from(f64::NAN)), "{name}");
+    }
+    let written =
+        FluentNumber::new(1.0, FluentNumberOptions { minimum_fraction_digits: Some(1), ..Default::default() });
+    let english = FluentBundle::<FluentResource>::new(vec![langid!("en")]);
+    let scope = Scope::new(&english, None, None);
+    assert!(FluentValue::from("one").matches(&FluentValue::from(1), &scope));
+    assert!(FluentValue::from("other").matches(&FluentValue::Number(written), &scope));
+}
+
+/// As in the compiler of Rust: a list as the formatter of a language joins it, which another crate has.
+#[derive(Clone, Debug, PartialEq)]
+struct List(Vec<String>);
+
+struct ListFormatter(&'static str);
+
+impl intl_memoizer::Memoizable for ListFormatter {
+    type Args = ();
+    type Error = ();
+
+    fn construct(lang: LanguageIdentifier, _args: Self::Args) -> Result<Self, Self::Error>
+    where
+        Self: Sized,
+    {
+        Ok(ListFormatter(if lang == langid!("de") { " und " } else { " and " }))
+    }
+}
+
+impl FluentType for List {
+    fn duplicate(&self) -> Box<dyn FluentType + Send> {
+        Box::new(self.clone())
+    }
+
+    fn as_string(&self, intls: &intl_memoizer::IntlLangMemoizer) -> Cow<'static, str> {
+        let result = intls.with_try_get::<ListFormatter, _, _>((), |formatter| self.0.join(formatter.0)).unwrap();
+        Cow::Owned(result)
+    }
+
+    fn as_string_threadsafe(&self, intls: &intl_memoizer::concurrent::IntlLangMemoizer) -> Cow<'static, str> {
+        let result = intls.with_try_get::<ListFormatter, _, _>((), |formatter| self.0.join(formatter.0)).unwrap();
+        Cow::Owned(result)
+    }
+}
+
+#[test]
+fn formatters_are_those_of_the_language() {
+    for (tag, expected) in [("de", "a und b"), ("en-US", "a and b")] {
+        let mut bundle = FluentBundle::new(vec![tag.parse::<LanguageIdentifier>().unwrap()]);
+        bundle.set_use_isolating(false);
+        bundle.add_resource(FluentResource::try_new("list = { $list }".to_owned()).unwrap()).unwrap();
+        let list = FluentValue::Custom(Box::new(List(vec!["a".to_owned(), "b".to_owned()])));
+        assert_eq!(text(&bundle, "list", Some(&fluent_args!["list" => list])), (expected.to_owned(), vec![]));
+        bundle.set_formatter(Some(|value, intls| match value {
+            FluentValue::Custom(value) => Some(format!("<{}>", intls.stringify_value(&**value))),
+            _ => None,
+        }));
+        let list = FluentValue::Custom(Box::new(List(vec!["a".to_owned(), "b".to_owned()])));
+        assert_eq!(text(&bundle, "list", Some(&fluent_args!["list" => list])).0, format!("<{expected}>"));
+    }
+}
+
+/// As in the page of `fluent-langneg`.
+#[test]
+fn tags_are_made_of_texts() {
+    let requested = fluent_bundle::convert_vec_str_to_langids_lossy(["de-DE", "not a tag", "en-US"]);
+    let available = fluent_bundle::convert_vec_str_to_langids_lossy(["it", "fr", "de-AT", "fr-CA", "en-US"]);
+    let default: LanguageIdentifier = "en-US".parse().expect("Parsing langid failed.");
+    let strategy = fluent_bundle::NegotiationStrategy::Filtering;
+    let supported = fluent_bundle::negotiate_languages(&requested, &available, Some(&default), strategy);
+    assert_eq!(supported.into_iter().cloned().collect::<Vec<_>>(), langids!["de-AT", "en-US"]);
+    assert!(fluent_bundle::convert_vec_str_to_langids(["de", "-"]).is_err());
+    assert_eq!(fluent_bundle::parse_accepted_languages("de-AT;0.9,de-DE;0.8,*"), langids!["de-AT", "de-DE"]);
 }

@@ -26,7 +26,7 @@ const ENGLISH = "a = A { $name }\n    .t = T\nb = B\n";
 const POLISH = "a = \u0104 \ud83d\udc4d { $nmae } { -t }\n    .t = \u0164\n-t = T\n";
 
 async function until(condition) {
-  for (let left = 600; left; left -= 1) {
+  for (let left = 3600; left; left -= 1) {
     const got = condition();
     if (got) return got;
     await new Promise((done) => setTimeout(done, 50));

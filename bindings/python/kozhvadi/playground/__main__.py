@@ -12,31 +12,15 @@ from typing import Any
 
 from .._samples import has_rules, is_tag
 from . import __doc__ as about
+from ._examples import EXAMPLES, FIRST
 from ._pages import Playground
-from ._project import Project
+from ._project import Project, placed
 
 # Links to the page keep their address if it has the same port each time.
 _PORT = 8137
 
 # Names of folders that are languages.
 _TAG = re.compile(r"[a-z]{2,3}(?:[-_][A-Za-z]{2,4})?")
-
-_EXAMPLE = """\
-# Try it: change a text, a variable, or the language above.
--brand = Kozhvadi
-
-welcome = Welcome to { -brand }, { $name }!
-
-# $count: how many messages are unread.
-unread = { $count ->
-    [one] { $name } has one unread message.
-   *[other] { $name } has { $count } unread messages.
-}
-
-settings = Settings
-    .tooltip = Change how { -brand } looks and behaves
-"""
-
 
 def _words() -> argparse.Namespace:
     parser = argparse.ArgumentParser(prog="kozhvadi-playground", description=about)
@@ -49,10 +33,20 @@ def _words() -> argparse.Namespace:
     parser.add_argument("--port", type=int, default=_PORT, help=f"{_PORT} without it; 0 is any that is free")
     parser.add_argument("--open", action="store_true", help="open the page in a browser")
     words = parser.parse_args()
-    words.locale = words.locale or _guessed(words.path)
+    words.locale = words.locale or _by_pattern(words.path) or _guessed(words.path)
     if not is_tag(words.locale):
         parser.error(f"the locale {words.locale!r} is no tag of a language")
     return words
+
+
+def _by_pattern(paths: list[Path]) -> str | None:
+    """The language that the project's file says of the first of these paths that it knows."""
+    try:
+        found = [placed(each) for path in paths for each in ([path] if path.is_file() else sorted(path.rglob("*.ftl"))[:1])]
+    except (OSError, ValueError):
+        # It is said once the files are read.
+        return None
+    return next((each.locale for each in found if each and each.locale), None)
 
 
 def _guessed(paths: list[Path]) -> str:
@@ -70,11 +64,11 @@ def main() -> int:
         name = next(iter(project.files), "")
         only = next(iter(project.references.values()), "")
         return {
-            "source": project.files.get(name, _EXAMPLE),
+            "source": project.files.get(name, FIRST),
             "reference": project.references.get(name, "" if project.files else only),
             "locale": words.locale,
             "name": name,
-            "example": _EXAMPLE,
+            "examples": EXAMPLES,
             "writes": words.write and bool(project.files),
             "project": project,
         }

@@ -10,6 +10,7 @@ from importlib.resources import files
 from typing import Any
 from urllib.parse import urlsplit
 
+from ._completing import completed
 from ._looking import Asked, languages, looked_at, tidied
 from ._project import Project
 
@@ -23,6 +24,7 @@ _FILES = {
     "/": ("page.html", "text/html; charset=utf-8"),
     "/page.css": ("page.css", "text/css; charset=utf-8"),
     "/page.js": ("page.js", "text/javascript; charset=utf-8"),
+    "/assist.js": ("assist.js", "text/javascript; charset=utf-8"),
 }
 
 _HEADERS = {
@@ -66,7 +68,7 @@ class Playground(ThreadingHTTPServer):
         self.project = project if isinstance(project, Project) else Project()
         self.writes = started.get("writes") is True
         files = {"files": self.project.files, "references": self.project.references}
-        return {"name": "", "writes": False, "example": "", **started, **files, "languages": languages()}
+        return {"name": "", "writes": False, "examples": [], **started, **files, "languages": languages()}
 
     @property
     def address(self) -> str:
@@ -142,6 +144,8 @@ class _Handler(BaseHTTPRequestHandler):
         given = self._given()
         if path == "/look":
             found = looked_at(self._asked(given))
+        elif path == "/complete":
+            found = completed(self._asked(given))
         elif path == "/tidy":
             found = tidied(_text(given, "source"))
         elif path == "/save":

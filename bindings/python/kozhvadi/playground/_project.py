@@ -6,7 +6,10 @@ import os
 import tempfile
 from collections.abc import Iterable
 from dataclasses import dataclass, field
+from functools import lru_cache
 from pathlib import Path
+
+from .._project_file import Placed, ProjectFile, Wrong, file_above
 
 # More files of a folder, or more bytes of all files, aren't shown.
 _MOST = 2_000
@@ -23,9 +26,14 @@ class Project:
 
     @staticmethod
     def read(paths: Iterable[Path], references: Iterable[Path]) -> Project:
-        """Reads files, and those below folders. Raises `OSError` if one can't be read, and `ValueError` if one isn't
-        UTF-8, if two have one name, or if there are none or too many."""
+        """Reads files, and those below folders. Without references the project's file above a file says which file it
+        translates. Raises `OSError` if a file can't be read, and `ValueError` if one isn't UTF-8, if two have one name,
+        if there are none or too many, or if the project's file is wrong."""
         named, compared = _named(paths), _named(references)
+        if not compared:
+            found = {name: placed(path) for name, path in named.items()}
+            translated = {name: Path(each.reference) for name, each in found.items() if each and each.reference}
+            return Project(named, _texts(named), _texts(translated))
         project = Project(named, _texts(named), _texts(compared))
         if len(project.files) == 1 == len(project.references):
             # One file is the translation of the other, whatever their names are.
@@ -49,6 +57,21 @@ class Project:
             os.unlink(made)
             raise
         self.files[name] = text
+
+
+def placed(path: Path) -> Placed | None:
+    """What the project's file above a file says of it. Raises `ValueError` if it is wrong."""
+    complete = Path(os.path.abspath(path))
+    file = file_above(complete)
+    try:
+        return _read(file, file.stat().st_mtime_ns).placed(os.fspath(complete), os.path.isfile) if file else None
+    except Wrong as error:
+        raise ValueError(f"the project's file is wrong: {error}") from error
+
+
+@lru_cache(maxsize=1)
+def _read(file: Path, _modified: int) -> ProjectFile:
+    return ProjectFile.read(file)
 
 
 def _named(paths: Iterable[Path]) -> dict[str, Path]:

@@ -12,7 +12,7 @@ const ISOLATES = { "\u2066": "LRI", "\u2067": "RLI", "\u2068": "FSI", "\u2069": 
 
 const $ = (id) => document.getElementById(id);
 const before = { source: "", reference: "" };
-const state = { arguments: {}, findings: [], seen: null, asked: 0, shown: 0, name: "", files: {}, references: {}, others: {}, link: "", problem: "" };
+const state = { arguments: {}, findings: [], seen: null, asked: 0, shown: 0, name: "", files: {}, references: {}, others: {}, examples: [], link: "", problem: "" };
 
 function element(name, properties = {}, ...children) {
   const made = document.createElement(name);
@@ -30,7 +30,8 @@ function element(name, properties = {}, ...children) {
 const WORDS = new RegExp(
   [
     /(?<comment>^#.*$)/,
-    /(?<id>^-?[A-Za-z][\w-]*(?= *=)|^ *\.[A-Za-z][\w-]*(?= *=))/,
+    /(?<id>^-?[A-Za-z][\w-]*(?= *=))/,
+    /(?<attribute>^ *\.[A-Za-z][\w-]*(?= *=))/,
     /(?<key>^ *\*?\[[^\]\n]*\])/,
     /(?<brace>[{}])/,
     /(?<string>"(?:[^"\\\n]|\\.)*"?)/,
@@ -51,7 +52,7 @@ function coloured(line, open) {
     const kind = Object.keys(match.groups).find((name) => match.groups[name] !== undefined);
     if (match[0] === "{") depth += 1;
     if (match[0] === "}") depth = Math.max(0, depth - 1);
-    if (kind === "id" || kind === "comment") depth = 0;
+    if (kind === "id" || kind === "attribute" || kind === "comment") depth = 0;
     if (IN_BRACES.has(kind) && !depth) continue;
     found.push({ start: match.index, end: match.index + match[0].length, name: `t-${kind}` });
   }
@@ -266,7 +267,7 @@ function show(found, sent) {
   );
   const focus = document.activeElement?.dataset?.keep;
   const place = document.activeElement?.selectionStart;
-  $("keys").hidden = !found.findings.length;
+  $("jumps").hidden = !found.findings.length;
   count(found.counts);
   for (const name of ["source", "reference"]) $(name).lang = name === "source" ? found.locale : "";
   const cards = found.messages.map((message) => known(message, found.locale));
@@ -286,9 +287,10 @@ function show(found, sent) {
 function nothing() {
   const words = ["There is no message yet. Type ", element("code", {}, "hello = Hello, { $name }!"), " into the source."];
   const made = element("div", { class: "nothing" }, element("p", {}, ...words));
-  if (state.example && !state.name) {
-    const show = element("button", { type: "button" }, "Show an example");
-    show.addEventListener("click", () => mend($("source"), { start: 0, end: $("source").value.length, text: state.example }));
+  if (state.examples.length && !state.name) made.append(element("p", {}, "Or begin with an example:"));
+  for (const [title, text] of state.name ? [] : state.examples) {
+    const show = element("button", { type: "button" }, title);
+    show.addEventListener("click", () => mend($("source"), { start: 0, end: $("source").value.length, text }));
     made.append(show);
   }
   return made;
@@ -771,7 +773,7 @@ async function main() {
   listen();
   try {
     const start = await (await fetch("start")).json();
-    Object.assign(state, { languages: start.languages, files: start.files, references: start.references, writes: start.writes, example: start.example });
+    Object.assign(state, { languages: start.languages, files: start.files, references: start.references, writes: start.writes, examples: start.examples });
     await begin((await restored()) ?? start, start.languages);
   } catch (error) {
     say(`The server doesn't answer: ${error.message}`);

@@ -71,8 +71,9 @@ class Actions:
             return
         entries = self._workspace.samples(self._workspace.catalog(document).documents)
         compared = self._workspace.samples(self._workspace.reference(document).documents)
+        functions = self._workspace.functions(document)
         for finding in findings:
-            for fix in fixes(finding, document.places, entries, compared, self._workspace.settings.functions):
+            for fix in fixes(finding, document.places, entries, compared, functions):
                 yield finding, fix
 
     def _sure_fixes(self, document: Document) -> list[Fix]:

@@ -160,17 +160,28 @@ class Checks:
             [(shown[each.uri], marks[each.uri] + each.text) for each in catalog.documents],
             reference=[(shown[each.uri], marks[each.uri] + each.text) for each in reference.documents],
             locale=self._workspace.locale(document),
-            functions=settings.functions,
+            functions=self._workspace.functions(document),
             notes=settings.notes or bool(reference.documents),
         )
         unsure = (_OF_CATALOG if catalog.unread else set()) | (_OF_REFERENCE if reference.unread else set())
         found = [
             _placed(each, names[each.file], marks)
             for each in report.findings
-            if each.code not in unsure and (settings.notes or each.severity != "note" or each.code == UNTRANSLATED)
+            if each.code not in unsure
+            and (settings.notes or each.severity != "note" or each.code == UNTRANSLATED)
+            and not self._is_left_out(document, each, names[each.file])
         ]
         absent = self._absent(document, found, reference)
         return _Checked(found, self._unread(catalog, reference), names, absent, reference.documents)
+
+    def _is_left_out(self, document: Document, finding: Finding, named: Document) -> bool:
+        """Whether the project's file asks for what a finding says to be left out. A missing message is named in the file
+        of the reference."""
+        if finding.code == "missing-message" and finding.entry:
+            return self._workspace.is_left_out(document, finding.entry, named)
+        if finding.code == "obsolete-message" and finding.entry:
+            return self._workspace.is_left_out(named, finding.entry, None)
+        return False
 
     def _absent(self, document: Document, found: list[Finding], reference: Loaded) -> list[MissingFile]:
         """The files of the reference with messages that the catalog lacks, and that its language hasn't."""
@@ -252,6 +263,9 @@ class Checks:
     def _told(self, document: Document, checked: _Checked) -> Json:
         self._found[document.uri] = own = [each for each in checked.found if each.file == document.uri]
         told = [_at_first_line(document, _WARNING, "unread-file", words) for words in checked.unread]
+        wrong = self._workspace.wrong_project(document)
+        if wrong:
+            told.append(_at_first_line(document, _WARNING, "project-file", f"the project's file isn't used: {wrong}"))
         absent = self._workspace.missing_reference(document)
         if absent:
             told.append(_at_first_line(document, _WARNING, "missing-reference", f"{absent}: nothing is compared"))

@@ -5,7 +5,7 @@ from __future__ import annotations
 import re
 from collections.abc import Iterable
 
-from .._builtins import KNOWN, Builtin
+from .._builtins import BUILTINS, Builtin
 from .._fixes import reference_variables
 from .._samples import Catalog, categories
 from .._scan import Inside, inside
@@ -94,11 +94,11 @@ class Completion:
             *self._variables(document, place, catalog, reference),
             *messages,
             *terms,
-            *self._functions(),
+            *self._functions(document),
         ]
 
-    def _functions(self) -> list[Json]:
-        names = [*KNOWN, *self._workspace.settings.functions]
+    def _functions(self, document: Document) -> list[Json]:
+        names = dict.fromkeys([*BUILTINS, *self._workspace.functions(document)])
         return [{"label": name, "kind": _FUNCTION, "text": f"{name}("} for name in names]
 
     def _variables(self, document: Document, place: Inside, catalog: Catalog, reference: Catalog) -> list[Json]:
@@ -163,7 +163,7 @@ def _builtin(place: Inside) -> Builtin | None:
     """What is known of the function that is called, if it comes with the library."""
     if place.kind != "call" or not place.callee or place.callee.kind != "function":
         return None
-    return KNOWN.get(place.callee.name)
+    return BUILTINS.get(place.callee.name)
 
 
 def _options(builtin: Builtin) -> list[Json]:

@@ -4,7 +4,7 @@ from __future__ import annotations
 
 import re
 
-from .._builtins import KNOWN
+from .._builtins import BUILTINS
 from .._bundle import Bundle
 from .._errors import FluentError
 from .._occurrences import Symbol
@@ -92,7 +92,7 @@ class Hovering:
 
     def _of_function(self, name: str) -> list[str]:
         """What a function of the library takes."""
-        known = KNOWN.get(name)
+        known = BUILTINS.get(name)
         if known is None:
             return []
         options = (f"{option}: {each.described}" for option, each in known.options.items())

@@ -9,12 +9,14 @@ from queue import Empty
 from typing import Any
 
 from .. import __version__
+from .._project_file import NAME
 from .._stopping import stop_if
 from ._abilities import Abilities
 from ._actions import CREATE_FILES, Actions
 from ._changes import changed
 from ._checks import Checks
 from ._completion import Completion
+from ._documents import Document
 from ._formatting import Formatting
 from ._highlighting import Highlighting
 from ._hints import Hints
@@ -109,8 +111,7 @@ class Server:
             uri = next(iter(self._unchecked))
             document = self.workspace.open.get(uri)
             published = self._checks.check(document) if document else []
-            absent = self.workspace.missing_reference(document) if document else None
-            for words in [*([absent] if absent else []), *(self._checks.unread if document else [])]:
+            for words in self._troubles(document) if document else ():
                 self._show(words)
             self._unchecked.pop(uri, None)
             for each in published:
@@ -119,6 +120,12 @@ class Server:
         if self._is_stale:
             self._is_stale = False
             self._request("workspace/diagnostic/refresh", None)
+
+    def _troubles(self, document: Document) -> list[str]:
+        """Why a document may not be compared with all that it should be."""
+        wrong, absent = self.workspace.wrong_project(document), self.workspace.missing_reference(document)
+        told = [f"the project's file isn't used: {wrong}"] if wrong else []
+        return [*told, *([absent] if absent else []), *self._checks.unread]
 
     def give_up(self) -> None:
         """Leaves what couldn't be checked, until it changes."""
@@ -170,7 +177,7 @@ class Server:
     def _watch(self, _: Params) -> None:
         """Asks the client to report changes of files that aren't open."""
         if self._can.watches:
-            watched = {"watchers": [{"globPattern": "**/*.ftl"}]}
+            watched = {"watchers": [{"globPattern": "**/*.ftl"}, {"globPattern": f"**/{NAME}"}]}
             asked = {"id": "watch", "method": "workspace/didChangeWatchedFiles", "registerOptions": watched}
             params = {"registrations": [asked]}
             self._send({"jsonrpc": "2.0", "id": "watch", "method": "client/registerCapability", "params": params})

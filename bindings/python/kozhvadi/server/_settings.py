@@ -21,7 +21,7 @@ class Settings:
     locale: str | None = None
     functions: list[str] = field(default_factory=list)
     notes: bool = False
-    catalog: str = "language"
+    catalog: str | None = None
 
 
 _NAMES = list(Settings.__dataclass_fields__)

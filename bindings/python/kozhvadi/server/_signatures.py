@@ -3,12 +3,13 @@
 from __future__ import annotations
 
 import re
-from collections.abc import Iterator
+from collections.abc import Iterable, Iterator
 from typing import NamedTuple
 
 from .._builtins import BUILTINS
 from .._occurrences import Symbol
 from .._scan import inside
+from .._stopping import go_on
 from ._checks import position_of
 from ._documents import Document
 from ._session import Params
@@ -57,12 +58,37 @@ class Signatures:
             if known:
                 yield _Parameter("", known.operand)
                 yield from (_Parameter(name, f"{name}: {each.described}") for name, each in known.options.items())
+            elif callee.name in self._workspace.functions(document):
+                yield _Parameter("", "a value")
+                yield from (_Parameter(name, f"{name}: ") for name in self._passed(document, callee.name))
             return
         catalog = self._workspace.samples(self._workspace.catalog(document).documents)
         entry = catalog.entries.get(str(callee))
         parts = [part.attribute for part in entry.parts] if entry else []
         names = dict.fromkeys(each.name for part in parts for each in catalog.variables(str(callee), part))
         yield from (_Parameter(name, f"{name}: ") for name in names)
+
+    def _passed(self, document: Document, function: str) -> Iterable[str]:
+        """The names of the arguments that a function of the program is called with, in the reference and the catalog."""
+        reference, catalog = self._workspace.reference(document), self._workspace.catalog(document)
+        holders = [each for each in [*reference.documents, *catalog.documents] if function in each.text]
+        return dict.fromkeys(name for each in holders for name in _arguments_of(each, function))
+
+
+def _arguments_of(document: Document, function: str) -> Iterator[str]:
+    """The names of the arguments of the calls of a function in a document, which may be in each other."""
+    go_on()
+    open_calls: list[str] = []
+    last = ""
+    for token in document.tokens:
+        text = document.source[token.start : token.end].decode(errors="replace")
+        if text == "(" and token.kind == "sign":
+            open_calls.append(last)
+        elif text == ")" and token.kind == "sign" and open_calls:
+            open_calls.pop()
+        elif token.kind == "argument" and open_calls[-1:] == [function]:
+            yield text
+        last = text if token.kind == "function" else ""
 
 
 def _active(parameters: list[_Parameter], arguments: bytes) -> int:

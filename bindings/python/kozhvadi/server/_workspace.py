@@ -8,9 +8,11 @@ from collections.abc import Iterable
 from pathlib import Path
 from typing import NamedTuple
 
-from .._samples import Catalog, has_rules
+from .._project_file import ProjectFile
+from .._samples import Catalog, has_rules, is_tag
 from ._documents import MARK, Document, Loaded, Unread, path_of, real_path, shown_path
 from ._files import Files, Listed, Listing, inode_of, mark_of
+from ._projects import Member, Projects, Side
 from ._settings import Settings
 
 # A tag as names of files and folders have it. `in-app` and `to-do` begin with languages, too.
@@ -28,10 +30,11 @@ class Root(NamedTuple):
 
 
 class Group(NamedTuple):
-    """The folder whose files are loaded together, and the language of those that are."""
+    """The folder whose files are loaded together, or the file of their project, and the language of those that are."""
 
     folder: Path
     locale: str | None
+    project: Path | None = None
 
 
 class Workspace:
@@ -43,6 +46,7 @@ class Workspace:
         self._roots: list[Root] = []
         self._open_at: dict[Path, Document] = {}
         self._files = Files()
+        self._projects = Projects()
 
     @property
     def counts_bytes(self) -> bool:
@@ -167,8 +171,32 @@ class Workspace:
         root = self.root_of(path)
         return shown_path(path.relative_to(root) if root else path)
 
+    def _member(self, document: Document) -> Member | None:
+        """The project of a document, and what it says of it."""
+        return self._projects.member(document.path) if document.path else None
+
+    def project(self, path: Path) -> ProjectFile | None:
+        """The nearest project's file above a path, if it can be read."""
+        return self._projects.above(path).project
+
+    def wrong_project(self, document: Document) -> str | None:
+        """What is wrong with the project's file above a document."""
+        return self._projects.above(document.path).wrong if document.path else None
+
+    def functions(self, document: Document) -> list[str]:
+        """The functions of the program: those of the project's file, and those of the settings."""
+        project = self.project(document.path) if document.path else None
+        return list(dict.fromkeys([*(project.functions if project else []), *self.settings.functions]))
+
+    def _catalog_kind(self, member: Member | None) -> str:
+        """Which files are loaded together: by the settings, or else by the project's file."""
+        return self.settings.catalog or (member.project.catalog if member else None) or "language"
+
     def locale(self, document: Document) -> str | None:
-        """The language of a document: that of the settings, or else that of its path."""
+        """The language of a document: by the project's file, or that of the settings, or else that of its path."""
+        member = self._member(document)
+        if member and member.placed.locale and is_tag(member.placed.locale):
+            return member.placed.locale
         return self.settings.locale or (self._locale_of(document.path) if document.path else None)
 
     def _locale_of(self, path: Path) -> str | None:
@@ -194,29 +222,42 @@ class Workspace:
         group = self.group(document)
         if document.path is None or group is None:
             return Loaded([document])
-        listing = self._listing(group.folder)
-        files = [file for file in listing.files if self._locale_of(file.path) == group.locale]
+        member = self._member(document)
+        if member:
+            side = Side(member.project, member.placed.locale)
+            files, unread = side.files, side.unread
+            if group.folder != member.project.path:
+                files = [file for file in files if file.path.parent == group.folder]
+        else:
+            listing = self._listing(group.folder)
+            files = [file for file in listing.files if self._locale_of(file.path) == group.locale]
+            unread = listing.unread
         # Those that were opened, and never saved, aren't among the files.
         files += [
             Listed(each.path, each.real)
             for each in self._open_at.values()
             if each.path and each.real and self.group(each) == group
         ]
-        loaded = self._loaded(files, [document], listing.unread)
+        loaded = self._loaded(files, [document], unread)
         loaded.documents.sort(key=lambda each: each.uri)
         return loaded
 
     def group(self, document: Document) -> Group | None:
         """What the documents of one catalog have in common by their paths. Nothing if a document is loaded alone."""
-        if document.path is None or self.settings.catalog == "file":
+        member = self._member(document)
+        kind = self._catalog_kind(member)
+        if document.path is None or kind == "file":
             return None
-        language = self._folder_of(document.path) if self.settings.catalog == "language" else None
+        if member:
+            project = member.project.path
+            return Group(project if kind == "language" else document.path.parent, member.placed.locale, project)
+        language = self._folder_of(document.path) if kind == "language" else None
         return Group(language or document.path.parent, self._locale_of(document.path))
 
     def _listing(self, folder: Path) -> Listing:
         """The files of a folder that are loaded together: also those in its folders, if it is that of a language."""
         is_language_folder = self._folder_of(folder / "any") == folder
-        return Listing(folder, below=self.settings.catalog == "language" and is_language_folder)
+        return Listing(folder, below=self._catalog_kind(None) == "language" and is_language_folder)
 
     def _reference_for(self, path: Path) -> Path | None:
         """Where the reference of a file is: that of the innermost folder of the workspace that the file is in.
@@ -237,6 +278,9 @@ class Workspace:
 
     def missing_reference(self, document: Document) -> str | None:
         """Says that the reference of a document isn't there."""
+        member = self._member(document)
+        if member:
+            return Side(member.project, member.placed.locale).without_reference
         reference = self._reference_for(document.path) if document.path else None
         if reference is None or document.path is None or os.path.exists(reference):
             return None
@@ -245,6 +289,9 @@ class Workspace:
 
     def is_of_reference(self, document: Document) -> bool:
         """Whether a document is one of those that others are compared with."""
+        member = self._member(document)
+        if member:
+            return member.placed.locale is None
         reference = self._reference_for(document.path) if document.path else None
         if reference is None or document.path is None or document.real is None:
             return False
@@ -265,6 +312,9 @@ class Workspace:
 
     def translation_path(self, document: Document, original: Document) -> Path | None:
         """Where the translation of a file of the reference belongs, in the language of a document."""
+        member = self._member(document)
+        if member and original.path:
+            return _translation(member, original.path)
         compared = self._compared_with(document)
         if compared is None or document.path is None or original.path is None:
             return None
@@ -279,25 +329,65 @@ class Workspace:
 
     def reference(self, document: Document) -> Loaded:
         """The documents of the source language that a document is compared with."""
+        member = self._member(document)
+        if member:
+            return self._reference_of(member)
         compared = self._compared_with(document)
         if compared is None:
             return Loaded()
         reference, file = compared
-        if reference == file or self.settings.catalog == "file":
+        kind = self._catalog_kind(None)
+        if reference == file or kind == "file":
             return self._loaded([Listed(file, real_path(file))])
-        is_below = self.settings.catalog == "language"
+        is_below = kind == "language"
         listing = Listing(reference if is_below else file.parent, below=is_below)
         return self._loaded(listing.files, unread=listing.unread)
 
+    def _reference_of(self, member: Member) -> Loaded:
+        """The documents that those of a project's language are compared with."""
+        kind, original = self._catalog_kind(member), member.placed.reference
+        if member.placed.locale is None or (kind != "language" and original is None):
+            return Loaded()
+        if kind == "file" and original:
+            return self._loaded([Listed(Path(original), real_path(Path(original)))])
+        side = Side(member.project, member.placed.locale)
+        files = side.references
+        if kind == "folder" and original:
+            files = [file for file in files if file.path.parent == Path(original).parent]
+        return self._loaded(files, unread=side.unread)
+
     def counterpart(self, document: Document) -> Document | None:
         """The document of the reference that this one translates."""
-        compared = self._compared_with(document)
-        found = self._at(Listed(compared[1], real_path(compared[1]))) if compared else None
+        member = self._member(document)
+        if member:
+            path = Path(member.placed.reference) if member.placed.reference else None
+        else:
+            compared = self._compared_with(document)
+            path = compared[1] if compared else None
+        found = self._at(Listed(path, real_path(path))) if path else None
         return found if isinstance(found, Document) else None
+
+    def is_left_out(self, document: Document, id: str, original: Document | None) -> bool:
+        """Whether the project's file leaves out that a message is missing, of which an original is given, or that it is
+        obsolete in a document."""
+        member = self._member(document)
+        if member is None or member.placed.locale is None:
+            return False
+        path = _translation(member, original.path) if original and original.path else document.path
+        left_out = member.project.is_left_out
+        if path is None or left_out(os.fspath(path), member.placed.locale, id):
+            return path is not None
+        return not path.exists() and left_out(os.fspath(path), member.placed.locale)
 
     def samples(self, documents: list[Document]) -> Catalog:
         """The entries of documents that are loaded together."""
         return Catalog(document.places for document in documents)
+
+
+def _translation(member: Member, original: Path) -> Path | None:
+    """Where the translation of a file of the reference belongs, in the language of a file of a project."""
+    found = member.project.translation(os.fspath(original), member.placed.locale) if member.placed.locale else None
+    return Path(found) if found else None
 
 
 def language_folder(path: Path, roots: list[Path]) -> Path | None:

@@ -18,8 +18,10 @@ _ESCAPE = re.compile(r'\\(?:([\\"])|u([0-9a-fA-F]{4})|U([0-9a-fA-F]{6}))')
 
 def fields_of(node: BaseNode) -> dict[str, Any]:
     """The attributes of a node by their names, after those that are made when they are asked for are made."""
-    node.finish()
-    return vars(node)
+    fields = vars(node)
+    if "_making" in fields:
+        node.finish()
+    return fields
 
 
 def to_json(value: Any) -> Any:

@@ -3,6 +3,7 @@
 from __future__ import annotations
 
 from . import ast
+from ._written import written
 
 
 class FluentSerializer:
@@ -14,9 +15,17 @@ class FluentSerializer:
         self.with_junk = with_junk
 
     def serialize(self, resource: ast.Resource) -> str:
-        """The text of a tree."""
+        """The text of a tree. The library writes it; a tree that it can't be given is written here, by the same rules.
+
+        Raises `MemoryError` if memory runs out.
+        """
         if not isinstance(resource, ast.Resource):
             raise TypeError(f"a resource is written, not {type(resource).__name__}")
+        is_plain = type(self).serialize_entry is FluentSerializer.serialize_entry
+        text = written(resource, self.with_junk) if is_plain else None
+        return self._written_here(resource) if text is None else text
+
+    def _written_here(self, resource: ast.Resource) -> str:
         parts: list[str] = []
         state = 0
         for entry in resource.body:

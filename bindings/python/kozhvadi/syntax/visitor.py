@@ -4,7 +4,7 @@ from __future__ import annotations
 
 from typing import Any
 
-from .ast import BaseNode, fields_of
+from .ast import BaseNode, Span, fields_of
 
 
 class Visitor:
@@ -23,6 +23,14 @@ class Visitor:
     ['first', 'last']
     """
 
+    # Whether nothing would be done with a span, which has nothing below it: then it isn't visited, which takes half as long.
+    passes_spans = True
+
+    def __init_subclass__(cls) -> None:
+        super().__init_subclass__()
+        visits = (cls.visit, cls.generic_visit) == (Visitor.visit, Visitor.generic_visit)
+        cls.passes_spans = visits and not hasattr(cls, "visit_Span")
+
     def visit(self, node: Any) -> Any:
         """Visits a node, or each node of a list."""
         if isinstance(node, list):
@@ -34,7 +42,7 @@ class Visitor:
     def generic_visit(self, node: BaseNode) -> Any:
         """Visits all that is below a node."""
         for value in fields_of(node).values():
-            if isinstance(value, (BaseNode, list)):
+            if isinstance(value, (BaseNode, list)) and not (self.passes_spans and type(value) is Span):
                 self.visit(value)
 
 
