@@ -5,8 +5,8 @@
 
 A result has the keys `what`, `call`, which prints it, and `least` and `most`, the ratios between which several runs lay:
 Rust's time by ours. If peak memory was measured, `megabytes` has ours and Rust's. `bar` is its name in the chart, which has
-only results with one, and `group` the part of the chart; `time` is ours in microseconds, of which the chart also makes the
-other crate's. `kind` is the name under which pages speak of it.
+only results with one, and `group` the part of the chart; `time` is ours in microseconds, one or the least and the greatest,
+of which the chart also makes the other crate's. `kind` is the name under which pages speak of it.
 
 Writes the chart docs/images/speed.svg and the table of docs/inside/speed.md. `--check` writes nothing, and ends with 1 if
 either isn't that of the results, or a page says another range of a kind.
@@ -38,7 +38,9 @@ GROUPS = {
     'rattle': ('Showing texts, in Rattle', 'fluent-bundle', '0.15.3'),
 }
 # Lengths in the chart, in pixels: the column of names, one time Rust's speed, a row, a bar, what is above the first row.
-NAMES, UNIT, ROW, BAR, HEAD = 250, 130, 26, 14, 40
+NAMES, UNIT, ROW, BAR, HEAD = 250, 100, 26, 14, 40
+# How wide a letter is at most, about.
+LETTER = 6.8
 STYLE = '''
     text { font: 13px system-ui, sans-serif; fill: #24292f } .group { font-weight: 600 }
     .least { fill: #2f6f4f } .most { fill: #2f6f4f; opacity: .35 } .slower { fill: #a1542b }
@@ -66,12 +68,23 @@ def table(results):
     return TABLE_HEAD + ''.join(map(row, results, [None, *results]))
 
 
+def in_unit(least, most):
+    """A time, in nanoseconds or microseconds, or the two between which it lies."""
+    factor, unit, digits = (1000, 'ns', 0) if most < 0.3 else (1, 'µs', 2)
+    one, other = f'{least * factor:.{digits}f}', f'{most * factor:.{digits}f}'
+    return f'{one} {unit}' if one == other else f'{one} to {other} {unit}'
+
+
 def times(result):
-    """The time of a result and that of the other crate, if it has one."""
+    """The time of a result and that of the other crate, if it has one. Of ranges, the other's is that of their middles."""
     if 'time' not in result:
         return ''
-    other = GROUPS[result['group']][1]
-    return f' ({result["time"]:.2f} µs, and {other} {result["time"] * result["least"]:.2f} µs)'
+    given = result['time']
+    least, most = given if isinstance(given, list) else (given, given)
+    theirs = (least + most) / 2 * (result['least'] + result['most']) / 2
+    some = '' if least == most and result['least'] == result['most'] else 'some '
+    other = GROUPS[result['group']][1].split()[-1]
+    return f' ({in_unit(least, most)}, and {other} {some}{in_unit(theirs, theirs)})'
 
 
 def heading(group, number):
@@ -103,7 +116,7 @@ def bar(result, number):
 
 def chart(results):
     shown = [result for result in results if 'bar' in result]
-    width = NAMES + max(result['most'] for result in shown) * UNIT + 110
+    width = max(NAMES + max(result['most'], 1) * UNIT + 20 + LETTER * len(ratios(result) + times(result)) for result in shown)
     drawn = [*rows(shown)]
     height = HEAD + len(drawn) * ROW + 10
     one = NAMES + UNIT

@@ -34,6 +34,7 @@ if ((failed + skipped == 0)); then
     run_with cc bindings/ffi/run.sh
     run_with 'cc cargo' bindings/rust/run.sh
     run_with 'cc python3' bindings/python/run.sh
+    run_with 'cc python3' bindings/first_programs.sh
     run_with 'nvim python3' bindings/python/in_editor.sh
     run_with 'chromium python3' bindings/python/in_browser.sh
     run_with cc examples/c/run.sh

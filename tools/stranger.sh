@@ -61,7 +61,8 @@ completes() {
         COMP_WORDS=(ftl li) COMP_CWORD=1; _ftl; [ "${COMPREPLY[*]}" = lint ] || exit 1
         COMP_WORDS=(ftl lint --format j) COMP_CWORD=3; _ftl; [ "${COMPREPLY[*]}" = json ] || exit 1
         COMP_WORDS=(ftl lint --color al) COMP_CWORD=3; _ftl; [ "${COMPREPLY[*]}" = always ] || exit 1
-        COMP_WORDS=(ftl lint --ignore cyc) COMP_CWORD=3; _ftl; [ "${COMPREPLY[*]}" = cyclic-reference ]'
+        COMP_WORDS=(ftl lint --ignore cyc) COMP_CWORD=3; _ftl; [ "${COMPREPLY[*]}" = cyclic-reference ] || exit 1
+        COMP_WORDS=(ftl lint --select syntax,cyc) COMP_CWORD=3; _ftl; [ "${COMPREPLY[*]}" = syntax,cyclic-reference ]'
 }
 
 installs() {
@@ -204,7 +205,7 @@ from kozhvadi.playground._pages import Playground
 import threading, urllib.request
 server = Playground(0, dict)
 threading.Thread(target=server.serve_forever, daemon=True).start()
-for name in ("", "page.css", "page.js", "start"):
+for name in ("", "page.css", "page.js", "assist.js", "start"):
     assert urllib.request.urlopen(server.address + name).read()'
 }
 

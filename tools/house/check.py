@@ -9,15 +9,16 @@ public type that programs use has a block. Each link leads to a file and a headi
 path in `crates` that a page names; each page that a comment names is there; no line of prose in a page is wider than
 120 columns; no page has words that docs/style.md leaves out, and no comment of the code, its definitions and its
 proofs has "behind" for "after"; no comment of code is wider than 100 columns; the README has at most 110 lines, 25
-links and 15 words a sentence, and no cell of the pages on what is proved more than 40; each time that a page says has
-a call that shows it, or a link to a page with the calls, in its paragraph; each call in a shell block of a page prints
-what follows it there; each public call that can fail says how, under `# Errors`; no clause is longer than 200
+links and 15 words a sentence, and no cell of the pages on what is proved more than 40; each time, size and count in
+thousands that a page says, unless it is a bound, has a call that shows it, or a link to a page with the calls, in its
+paragraph; a release has each page that its readers are led to; each call in a shell block of a page prints what follows
+it there; each public call that can fail says how, under `# Errors`; no clause is longer than 200
 characters, and at most 33 are longer than 120; each file that names the version names the same one, and each that
 lists the codes of findings lists the same ones; each place that names the version of CLDR names that of
 tools/cldr.txt; crates.txt is read alike in Python and in shell; the library for C and the packages for Rust and Python
 have the numbers, structs and calls of its header; the library and the package for Python know the same of the
 functions that come with the library; each file that names its interpreter can be run, and each edit that must fail
-applies; the counts of crates and functions in the pages on proofs are those of the sources; the figures that a file of
+applies; the counts of crates and functions in the pages on proofs are those of the sources, and those of lines nearly; the figures that a file of
 results has are those of the pages; and each law, function and clause that a row of `proved.md` names is in the row's
 crates.
 
@@ -40,6 +41,7 @@ sys.path.insert(0, str(Path(__file__).resolve().parents[1]))
 import reflow
 from lib import c_interface, cldr, function_table, sessions
 from lib.crates import below, uses
+from release import pages as release
 from trying.edited import edits_of
 
 
@@ -71,11 +73,14 @@ CODES = {
 WIDEST = 120
 # How long the README is at most: lines, links, and words a sentence.
 README_LINES, README_LINKS, README_WORDS = 110, 25, 15
-# Times that were measured, and what says how: a call, or a link to a page with the calls.
-MEASURED = re.compile(r'\b\d[\d,.]*(?: to \d[\d,.]*)? ?(?:ns|µs|ms|s|seconds|minutes|hours|times as (?:fast|long))\b'
-                      r'|\b(?:an|half an|two|three|four|some|a quarter of an) (?:hours?|minutes?)\b')
-MEASURING = re.compile(r'`[^`]*(?:tools|bench|bindings|crates)/[^`]*`|`(?:(?:\./)?ftl|rt|cargo|python3|\w+\.sh)[^`]*`'
-                       r'|(?:speed|checks|validation)\.md|^    (?:tools|bench|bindings|rt|python3|\./ftl|\(cd|cd)', re.M)
+# What was measured or counted, and what says how: a call, or a link to a page with the calls. What a page says of a bound
+# is neither.
+TIMES = re.compile(r'\b\d[\d,.]*(?: to \d[\d,.]*)? ?(?:ns|µs|ms|s|seconds|minutes|hours|times as (?:fast|long))\b'
+                   r'|\b(?:an|half an|two|three|four|some|a quarter of an) (?:hours?|minutes?)\b')
+SIZES = re.compile(r'\b\d[\d,.]*(?: to \d[\d,.]*)? ?(?:[KMG]i?B|instructions)\b|\b\d{1,3}(?:,\d{3})+\b(?!,| ?bytes\b)')
+BOUND = re.compile(r'\b(?:at most|at least|below|from|larger than|more than|within|with|may take|is|(?:stack|budget|threads) of) $', re.I)
+MEASURING = re.compile(r'`[^`]*(?:tools|bench|bindings|crates|tests)/[^`]*`|`(?:(?:\./)?ftl|rt|cargo|python3|\w+\.(?:sh|py))[^`]*`'
+                       r'|(?:speed|checks|validation)\.md|^    (?:tools|bench|bindings|rt|python3|\./ftl|\(cd|cd|\$ )', re.M)
 # How many words a cell of the pages on what is proved has at most.
 CELL_WORDS = 40
 PROGRAM = (ARGUMENTS.program or ROOT / 'crates/ftl/out/ftl').resolve()
@@ -105,6 +110,13 @@ COUNTED = [
     ('#[cycle(resolving)', 'fluent_resolver/src/*.rt', r'(?:first of|each of the) (\w+) functions'),
     ('impl From<', 'fluent_number/src/*_integers.rt', r'(\w+) conversions'),
 ]
+# How a page says the numbers of lines, and which files have them. What it says may be a tenth off.
+LINES_PAGE = 'docs/inside/trusted.md'
+LINES = [
+    (r'([\d,]+) lines of code', 'crates/*/src/**/*.rt'),
+    (r'([\d,]+) of definitions', 'crates/*/specs/**/*.antt'),
+    (r'([\d,]+) of proofs', 'crates/*/proofs/**/*.antt'),
+]
 # The figures of pages that a file has: the page and how it says one, and the file and the lines whose numbers are added up.
 FIGURES = [
     ('docs/inside/proved.md', r'Each of ([\d,]+) prefixes', 'tests/more_rows/stdout', r'^(?:syntax|prefixes)\.jsonl: (\d+) prefixes'),
@@ -129,6 +141,9 @@ EXAMPLES = {
 }
 # What parts a program's `main.rt` from its module in the crate `examples`: a line of root files, and that its `main` is called.
 OF_ROOT_FILE = re.compile(r'^#!\[tactic\(auto\)\]$|^pub (?=fn main\()')
+# The row of the index for a reader who has the repository, and pages that the other rows name and no release has.
+OF_REPOSITORY = '| change it |'
+NOT_RELEASED = {'README.md', 'docs/inside/architecture.md'}
 # Paths in `crates` that are there once a reader has made them.
 OF_READER = re.compile(r'^crates/hello/|/out\b')
 # What has comments that are read, and how a line's comment begins.
@@ -279,6 +294,17 @@ def wrong_links():
                 yield f'{place_of(path)}: no such page: {name}'
 
 
+def pages_without_release():
+    """Pages to which the index leads a reader who has a release, and which it lacks."""
+    index = ROOT / 'docs/README.md'
+    places = release.released(ROOT)
+    for number, line in prose_of(index):
+        for link in re.findall(r'\]\(([^)\s#]+)', '' if line.startswith(OF_REPOSITORY) else line):
+            name = os.path.relpath(index.parent / link, ROOT)
+            if name not in places and name not in NOT_RELEASED:
+                yield f'{place_of(index, number)}: no release has {name}'
+
+
 def wide_prose():
     for page in PAGES:
         for number, line in prose_of(page):
@@ -322,15 +348,22 @@ def long_cells():
                     yield f'{place_of(page, number)}: a cell of {count} words, and at most {CELL_WORDS} are read'
 
 
+def figures_of(paragraph):
+    """The figures of a paragraph that were measured or counted, as matches."""
+    bare = re.sub(r'`[^`]*`', lambda span: ' ' * len(span[0]), paragraph)
+    yield from TIMES.finditer(paragraph)
+    yield from (found for found in SIZES.finditer(bare) if not BOUND.search(' '.join(bare[:found.start()].split()) + ' '))
+
+
 def figures_without_source():
-    """Times in a page, if neither a call nor a link to where the calls are is in the paragraph or the table."""
+    """Figures in a page, if neither a call nor a link to where the calls are is in the paragraph or the table."""
     for page in PAGES:
         text = re.sub(r'^```.*?^```$', lambda block: '\n' * block[0].count('\n'), page.read_text(), flags=re.S | re.M)
         line = 1
         for paragraph in re.split(r'((?<!:)\n\s*\n)', text) if page != STYLE else ():
-            time = MEASURED.search(paragraph)
-            if time and not MEASURING.search(paragraph):
-                yield f'{place_of(page, line + paragraph[:time.start()].count(chr(10)))}: {time[0]}, without a call that shows it'
+            figure = next(figures_of(paragraph), None)
+            if figure and not MEASURING.search(paragraph):
+                yield f'{place_of(page, line + paragraph[:figure.start()].count(chr(10)))}: {figure[0]}, without a call that shows it'
             line += paragraph.count('\n')
 
 
@@ -570,6 +603,17 @@ def wrong_counts():
                 yield f'{place_of(page)}: {word} is the count of {counted}, and the sources have {count}'
 
 
+def wrong_lines():
+    """Numbers of lines that a page says, and the sources don't nearly have."""
+    page = ROOT / LINES_PAGE
+    text = ' '.join(page.read_text().split())
+    for words, files in LINES:
+        said = re.search(words, text)
+        count = sum(path.read_bytes().count(b'\n') for path in ROOT.glob(files))
+        if not said or abs(int(said[1].replace(',', '')) - count) > count / 10:
+            yield f'{place_of(page)}: {said[0] if said else words}, and {files} has {count:,} lines'
+
+
 def wrong_figures():
     """Figures of pages that the files of results don't have."""
     for name, words, file, lines in FIGURES:
@@ -615,10 +659,10 @@ def wrong_rows():
 def checks():
     """The checks that are asked for."""
     if not ARGUMENTS.calls:
-        yield from (wrong_quotes, types_without_examples, wrong_links, wide_prose, long_readme, long_cells, figures_without_source, wrong_words,
+        yield from (wrong_quotes, types_without_examples, wrong_links, pages_without_release, wide_prose, long_readme, long_cells, figures_without_source, wrong_words,
                     wrong_comments, wide_comments,
                     silent_calls, long_clauses, other_versions, other_codes, other_cldr, other_readers, other_interfaces,
-                    other_functions, stale_edits, locked_scripts, wrong_counts, wrong_figures, wrong_rows)
+                    other_functions, stale_edits, locked_scripts, wrong_counts, wrong_lines, wrong_figures, wrong_rows)
     if ARGUMENTS.sources:
         return
     if PROGRAM.exists():

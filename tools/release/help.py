@@ -130,11 +130,16 @@ def words(command: Command) -> str:
     return ' '.join(f'--{option.long}' for option in command.options)
 
 
+def bash_word(value: str) -> str:
+    """What compgen completes of such a value: codes may have commas between them."""
+    return '-P "${word%"${word##*,}"}" -- "${word##*,}"' if value == 'CODE' else '-- "$word"'
+
+
 def bash(whole: Command, rest: list[Command]) -> str:
     cases = ''.join(f'        {it.name}) options="{words(it)}" ;;\n' for it in rest)
     values = ''.join(
-        f'        --{name}) COMPREPLY=($(compgen -W "{" ".join(choices)}" -- "$word")); return ;;\n'
-        for name, choices in sorted({(o.long, o.choices) for it in rest for o in it.options if o.choices})
+        f'        --{name}) COMPREPLY=($(compgen -W "{" ".join(choices)}" {bash_word(value)})); return ;;\n'
+        for name, value, choices in sorted({(o.long, o.value, o.choices) for it in rest for o in it.options if o.choices})
     )
     return (
         '# Completion of ftl for bash.\n'

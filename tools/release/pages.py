@@ -33,6 +33,8 @@ BEGINNINGS = {
     'bindings/python/README.md': 'python.md',
     'bindings/rust/README.md': 'cargo.md',
 }
+# Pages of `docs/inside` for someone who chooses the library or doubts it.
+INSIDE = ('trusted', 'proved', 'validation', 'speed')
 # Pages and sections for someone with the repository.
 OF_THE_REPOSITORY = ('install.md', 'style.md')
 LEFT_OUT = re.compile(r'^## (?:Build it|Tests|The script `ftl`)\n.*?(?=^## |\Z)', re.M | re.S)
@@ -46,6 +48,7 @@ def released(root: Path) -> dict[str, Path]:
     docs = ('docs', *(f'docs/{name}' for name in ('command', 'c-and-cpp', 'rust', 'python', 'rattle', 'reference')))
     bindings = ('bindings', *(f'bindings/{name}' for name in ('c', 'cpp', 'ffi', 'python')))
     pages = [page for folder in docs + bindings for page in root.glob(f'{folder}/*.md') if page.name not in OF_THE_REPOSITORY]
+    pages += [root / f'docs/inside/{name}.md' for name in INSIDE]
     patterns = ('*.ftl', 'l10n/*/main.ftl', 'notes/*/notes.ftl')
     sources = [path for pattern in patterns for path in root.glob(f'examples/{pattern}')]
     places = {str(path.relative_to(root)): DOC / path.relative_to(root) for path in sorted(pages + sources)}
@@ -56,6 +59,7 @@ def released(root: Path) -> dict[str, Path]:
     places |= {str(path.relative_to(root)): Path('include') / path.name for path in headers}
     return places | {
         'CHANGELOG.md': DOC / 'CHANGELOG.md',
+        'SECURITY.md': DOC / 'SECURITY.md',
         'crates/fluent_plurals/LICENSE-UNICODE': DOC / 'LICENSE-UNICODE',
         'bindings/rust/README.md': CARGO / 'README.md',
     }

@@ -1,16 +1,17 @@
 #!/usr/bin/env python3
 """Does what a page says, in the folder where it is called, as somebody would who types it.
 
-    typed.py PAGE
+    typed.py [--without HEADING] PAGE
 
 A fenced block after a paragraph that ends in `Make this the file NAME:` becomes that file; more words may stand between
 NAME and the colon. An indented block, or one whose fence is `sh`, is run by a shell, which has the folder and the variables that earlier blocks left. A
 block whose fence is `text` is what the block before it has to print at its end. An indented block with calls after `$ ` is
-a session: each call has to print what follows it. All other blocks are passed over.
+a session: each call has to print what follows it. All other blocks are passed over, and so is the section with that heading.
 
 Ends with 1, and says which block it was, if a block fails or prints something else, or if the page has nothing to type.
 """
 
+import argparse
 import re
 import subprocess
 import sys
@@ -67,11 +68,24 @@ class Shell:
         return Path(self.run(['pwd']).strip())
 
 
+def arguments() -> argparse.Namespace:
+    parser = argparse.ArgumentParser(allow_abbrev=False)
+    parser.add_argument('--without', metavar='HEADING')
+    parser.add_argument('page', metavar='PAGE', type=Path)
+    return parser.parse_args()
+
+
 def main() -> None:
-    page, printed, compared = Path(sys.argv[1]), '', 0
+    words = arguments()
+    page, printed, compared = words.page, '', 0
+    text = page.read_text(encoding='utf-8')
+    if words.without:
+        text, left_out = re.subn(rf'^## {re.escape(words.without)}\n.*?(?=^## |\Z)', '', text, flags=re.M | re.S)
+        if not left_out:
+            sys.exit(f'{page} has no section {words.without}')
     with tempfile.TemporaryDirectory() as kept:
         shell = Shell(Path(kept))
-        for kind, lines, before in blocks(page.read_text(encoding='utf-8')):
+        for kind, lines, before in blocks(text):
             named = NAMED.search(before)
             if kind == 'sh' and lines[0].startswith('$ '):
                 compared += 1
