@@ -30,19 +30,21 @@ after_itself : (a : Gap) → IsAfter a a
 after_itself a = (omega arith, λ e. omega arith)
 
 after_both : (a b c : Gap) → IsAfter a b → IsAfter b c → IsAfter a c
-after_both a b c first second =
-    (omega (arith, first.0, second.0),
-    λ e. let ab : a.far ≡ b.far = omega (arith, first.0, second.0, e) in
-    let bc : b.far ≡ c.far = omega (arith, first.0, second.0, e) in
-    let l = first.1 ab in
-    let m = second.1 bc in
-    omega (arith, l, m))
+after_both a b c first second = (
+  omega (arith, first.0, second.0),
+  λ e. let ab : a.far ≡ b.far = omega (arith, first.0, second.0, e) in
+      let bc : b.far ≡ c.far = omega (arith, first.0, second.0, e) in
+      let l = first.1 ab in
+      let m = second.1 bc in
+      omega (arith, l, m),
+)
 
 from_test : (a b : Gap) → is_nearer a b ≡ false → IsAfter a b
 from_test a b h =
-    let both = or_parts (nat_lt a.far b.far) (a.far == b.far && nat_lt b.lacks a.lacks) h in
-    (ltb-false a.far b.far both.0,
-    λ e. ltb-false b.lacks a.lacks (and_right (a.far == b.far) (nat_lt b.lacks a.lacks) (eq-eqb a.far b.far e) both.1))
+    let both = or_parts (nat_lt a.far b.far) (a.far == b.far && nat_lt b.lacks a.lacks) h in (
+      ltb-false a.far b.far both.0,
+      λ e. ltb-false b.lacks a.lacks (and_right (a.far == b.far) (nat_lt b.lacks a.lacks) (eq-eqb a.far b.far e) both.1),
+    )
 
 to_test : (a b : Gap) → IsAfter a b → is_nearer a b ≡ false
 to_test a b h =

@@ -11,7 +11,7 @@ one_value x y same = cc
 
 pub text_decides : TextDecides
 text_decides json x y a b = let values : b.value ≡ a.value = one_value b.value a.value (sym b.read ∙ a.read) in
-  value_decides x y a.value a.has_value (subst (HasValue y) values b.has_value)
+    value_decides x y a.value a.has_value (subst (HasValue y) values b.has_value)
 
 pub writing_decides : WritingDecides
 writing_decides json with_junk x y a b = a.is ∙ (ap (written_with with_junk) (text_decides json a.entries b.entries a.tree b.tree) ∙ sym b.is)
