@@ -12,3 +12,4 @@ pub mod Views
 pub mod Rounding
 pub mod Text
 pub mod Written
+pub mod Plain

@@ -1,16 +1,22 @@
 //! The formatter.
-ghost use Rattle.std.specs.Prelude.{◌≡◌, ◌<◌, ◌≤◌, ◌^◌, option_map, unsigned_abs};
+ghost use Rattle.std.specs.Prelude.{◌≡◌, ◌<◌, ◌≤◌, ◌^◌, option_map, unsigned_abs, IfSome, IsTrue};
 ghost use Rattle.fluent_number.specs.Number.{number_of};
 ghost use Rattle.fluent_number.specs.Options.{options_of};
 ghost use Rattle.fluent_numerals.specs.Views.{form_view, forms_view, found_currency, layout_view, locale_view};
 ghost use Rattle.fluent_numerals.specs.Text.{digits_of, form_in, layout, money_layout, number_layout, numeral_text, symbol_in, value_text};
 ghost use Rattle.fluent_numerals.specs.Lookup.{locale_for};
-ghost use Rattle.fluent_numerals.specs.Written.{IsText, text_as};
+ghost use Rattle.fluent_numerals.specs.Written.{Adds, IsText, text_as};
+ghost use Rattle.fluent_numerals.specs.Plain.{EndsInThreeDigits, IsBare, WritesPlainlyBelow};
+ghost use Rattle.fluent_numerals.specs.PatternNames.{pattern_named};
+ghost use Rattle.fluent_value.specs.Shown.{IsPlain};
+ghost use Rattle.fluent_value.specs.View.{value_view};
 
 use crate::currencies::currency_named;
 use crate::currency::Currency;
+use crate::digits::LATN;
 use crate::forms::{Form, Forms, forms_named};
 use crate::locales::locale_entry;
+use crate::patterns::PatternName;
 use crate::rounding::{Parts, least_integer_digits, shown_parts};
 use crate::tagged::first_fitting;
 use crate::writing::{push_affix, push_fraction, push_whole};
@@ -76,6 +82,23 @@ impl LocaleNumerals {
     pub fn text_of(&self, alloc: Global, number: &FluentNumber) -> Result<String, AllocError>
         ensures { IsText result (numeral_text (locale_view self.now) (number_of number.now)) }
     {
+        let mut text = String::new(alloc);
+        self.push_text(&mut text, alloc, number)?;
+        Ok(text)
+    }
+
+    /// Appends the text of a number.
+    ///
+    /// # Errors
+    /// [`AllocError`] if memory runs out; `text` may hold a part of it.
+    pub fn push_text(
+        &self,
+        text: &mut String,
+        alloc: Global,
+        number: &FluentNumber,
+    ) -> Result<(), AllocError>
+        ensures { Adds result text.old text.new (numeral_text (locale_view self.now) (number_of number.now)) }
+    {
         let layout = self.layout(&number.options);
         let parts = shown_parts(
             number.value,
@@ -84,34 +107,29 @@ impl LocaleNumerals {
             layout.most,
             &number.options,
         );
-        self.written(alloc, &layout, parts, number)
+        self.push_parts(text, alloc, &layout, parts, number)
     }
 
-    /// The text of what is shown of a number.
-    fn written(
+    /// Appends what is shown of a number.
+    fn push_parts(
         &self,
+        text: &mut String,
         alloc: Global,
         layout: &Layout<'_>,
         parts: Parts,
         number: &FluentNumber,
-    ) -> Result<String, AllocError>
+    ) -> Result<(), AllocError>
         requires few { layout.now.places ≤ 18 }
         requires below { parts.fraction < 10 ^ layout.now.places }
-        ensures { IsText result
+        ensures { Adds result text.old text.new
             (text_as (locale_view self.now) (layout_view layout.now) (number_of number.now) parts) }
     {
         let form = layout.form;
         let pattern = form.pattern.pattern();
         let below_zero = number.value.is_negative();
-        let mut text = String::new(alloc);
-        push_affix(
-            &mut text,
-            pattern.prefix(below_zero),
-            self.forms,
-            layout.symbol,
-        )?;
+        push_affix(text, pattern.prefix(below_zero), self.forms, layout.symbol)?;
         push_whole(
-            &mut text,
+            text,
             alloc,
             parts.whole,
             least_integer_digits(&number.options),
@@ -120,20 +138,46 @@ impl LocaleNumerals {
             form,
         )?;
         push_fraction(
-            &mut text,
+            text,
             parts.fraction,
             layout.places,
             parts.least,
             self.forms,
             form,
         )?;
-        push_affix(
-            &mut text,
-            pattern.suffix(below_zero),
-            self.forms,
-            layout.symbol,
-        )?;
-        Ok(text)
+        push_affix(text, pattern.suffix(below_zero), self.forms, layout.symbol)
+    }
+
+    /// Whether the text of a value is that of the rules of Fluent: it is no number, or one that is
+    /// written by its ASCII digits alone.
+    #[inline]
+    pub fn shows_plainly<C: FluentType>(&self, value: &FluentValue<'_, C>) -> bool
+        ensures { IsTrue result → IsPlain (value_text (locale_view self.now)) (value_view C.meaning value.now) }
+    {
+        match value {
+            FluentValue::Number(number) => match bare_whole(number) {
+                Some(whole) => whole < self.plain_below(),
+                None => false,
+            },
+            _ => true,
+        }
+    }
+
+    /// A bound below which a whole number is written by its ASCII digits alone, if no option asks
+    /// for anything else. It is 0 where the digits aren't ASCII's or something stands around them,
+    /// and else at most the least number that has groups.
+    #[inline]
+    pub fn plain_below(&self) -> u64
+        ensures { WritesPlainlyBelow (locale_view self.now) result }
+    {
+        if self.forms.digits != LATN || !ends_in_three_digits(self.forms.number.pattern) {
+            return 0;
+        }
+        match self.forms.least_grouped {
+            1 => 1_000,
+            2 => 10_000,
+            _ => 0,
+        }
     }
 
     /// How a number with these options is written.
@@ -227,6 +271,38 @@ impl LocaleNumerals {
     }
 }
 
+/// Whether a pattern has three digits in its last group, and nothing around the digits of numbers
+/// that aren't below zero.
+#[inline]
+fn ends_in_three_digits(pattern: PatternName) -> bool
+    ensures { IsTrue result → EndsInThreeDigits (pattern_named pattern) }
+{
+    matches!(pattern, PatternName::Number | PatternName::IndianNumber)
+}
+
+/// The whole number that a number is, if it isn't below zero and no option asks for anything but
+/// its digits.
+#[inline]
+fn bare_whole(number: &FluentNumber) -> Option<u64>
+    ensures { IfSome result (λ whole. IsBare (number_of number.now) whole) }
+{
+    let options = &number.options;
+    let FluentNumberStyle::Decimal = options.style else {
+        return None;
+    };
+    let is_bare = number.value.fraction() == 0
+        && !number.value.is_negative()
+        && options.minimum_integer_digits.is_none()
+        && options.minimum_fraction_digits.is_none()
+        && options.minimum_significant_digits.is_none()
+        && options.maximum_significant_digits.is_none();
+    if is_bare {
+        Some(number.value.whole())
+    } else {
+        None
+    }
+}
+
 /// How many digits after the point amounts of a currency have.
 fn digits_of(currency: Option<&'static Currency>) -> usize
     ensures { result ≡ digits_of (found_currency currency.entry) }
@@ -250,5 +326,33 @@ impl<C: FluentType, M> ValueFormatter<C, M> for LocaleNumerals {
             FluentValue::Number(number) => Ok(Some(self.text_of(alloc, number)?)),
             _ => Ok(None),
         }
+    }
+
+    fn format_into(
+        &self,
+        out: &mut String,
+        alloc: Global,
+        value: &FluentValue<'_, C>,
+        _plurals: &M,
+    ) -> Result<bool, AllocError> {
+        match value {
+            FluentValue::Number(number) => {
+                self.push_text(out, alloc, number)?;
+                Ok(true)
+            }
+            _ => Ok(false),
+        }
+    }
+
+    fn is_plain(&self, value: &FluentValue<'_, C>) -> bool {
+        self.shows_plainly(value)
+    }
+
+    fn keeps_texts(&self) -> bool {
+        true
+    }
+
+    fn plain_below(&self) -> u64 {
+        LocaleNumerals::plain_below(self)
     }
 }

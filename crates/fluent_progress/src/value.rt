@@ -22,10 +22,7 @@ pub fn write_value<C: FluentType, F, E: Context<C, F>>(
     ensures { Appends result out.old out.new
         (value_text (E.environment context.now) (value_view C.meaning value.now)) }
 {
-    match value.write(out, context) {
-        Ok(()) => Ok(()),
-        Err(_) => Err(AllocError),
-    }
+    value.append_to(out, context)
 }
 
 /// Writes what a number literal stands for.

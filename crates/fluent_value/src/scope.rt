@@ -1,9 +1,10 @@
 //! What values are compared and shown by.
 
-ghost use Rattle.std.specs.Prelude.{◌≡◌, Bool, false, ℕ, List, Option, IfOk, IsNone, IsOkAnd};
+ghost use Rattle.std.specs.Prelude.{◌≡◌, Bool, false, ℕ, List, Option, IfOk, IsNone, IsOkAnd, IsTrue};
 ghost use Rattle.std.specs.Cow.{cow_str_bytes};
 ghost use Rattle.fluent_value.specs.Matching.{Plurals};
-ghost use Rattle.fluent_value.specs.OptionalText.{optional_bytes};
+ghost use Rattle.fluent_value.specs.OptionalText.{optional_bytes, Appends, SaysWhether};
+ghost use Rattle.fluent_value.specs.Shown.{IsPlain, IsPlainBelow, KeepsTexts};
 ghost use Rattle.fluent_value.specs.Value.{Value};
 ghost use Rattle.fluent_value.specs.View.{value_view};
 
@@ -44,6 +45,48 @@ pub trait ValueScope<C: FluentType> {
         ensures text { IfOk result (λ text. optional_bytes text
             ≡ formatted self.now (value_view C.meaning value.now)) }
         ensures unset { has_formatter self.now ≡ false → IsOkAnd result IsNone };
+
+    /// Appends the formatter's text of a value, if a formatter is set and answers one, and says
+    /// whether one was appended.
+    ///
+    /// # Errors
+    /// [`AllocError`] if memory runs out; `out` may hold a part of the text.
+    fn format_into(&self, out: &mut String, value: &FluentValue<'_, C>) -> Result<bool, AllocError>
+        ensures found { SaysWhether result (formatted self.now (value_view C.meaning value.now)) }
+        ensures text { Appends result out.old out.new
+            (formatted self.now (value_view C.meaning value.now)) }
+    {
+        match self.format(value)? {
+            Some(text) => {
+                out.push_str(text.as_str())?;
+                Ok(true)
+            }
+            None => Ok(false),
+        }
+    }
+
+    /// Whether the rules of Fluent alone may show a value: a formatter, if one is set, changes
+    /// nothing of its text. What may be shown so need not say so.
+    fn is_plain(&self, value: &FluentValue<'_, C>) -> bool
+        ensures { IsTrue result → IsPlain (formatted self.now) (value_view C.meaning value.now) }
+    {
+        let _value = value;
+        false
+    }
+
+    /// Whether every text may be shown as it is.
+    fn keeps_texts(&self) -> bool
+        ensures { IsTrue result → KeepsTexts (formatted self.now) }
+    {
+        false
+    }
+
+    /// The bound below which a whole number without options may be shown by its digits alone.
+    fn plain_below(&self) -> u64
+        ensures { IsPlainBelow (formatted self.now) result }
+    {
+        0
+    }
 
     /// The category of a number with these operands by these rules.
     fn category(&self, rule: PluralRuleType, operands: &PluralOperands) -> PluralCategory

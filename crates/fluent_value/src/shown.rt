@@ -1,11 +1,11 @@
 //! The texts that values are shown as.
 
-ghost use Rattle.std.specs.Prelude.{◌≡◌, ◌++◌, false, decimal, Ok, IfOk, IfSome, OnOk, OnErr, IsOkAnd};
+ghost use Rattle.std.specs.Prelude.{◌≡◌, ◌++◌, false, decimal, string_bytes, Ok, IfOk, IfSome, OnOk, OnErr, IsOkAnd};
 ghost use Rattle.std.specs.Cow.{cow_str_bytes, IsBorrowedStr};
 ghost use Rattle.fluent_number.specs.Number.{number_of};
 ghost use Rattle.fluent_number.specs.Text.{number_text};
 ghost use Rattle.fluent_value.specs.Lent.{IsBorrowedText};
-ghost use Rattle.fluent_value.specs.Shown.{text_in, plain_text as text_alone};
+ghost use Rattle.fluent_value.specs.Shown.{text_in, plain_text};
 ghost use Rattle.fluent_value.specs.View.{value_view};
 ghost use Rattle.fluent_value.specs.declared.value.FluentValue.TheVariants as of;
 
@@ -67,10 +67,44 @@ impl<'a, C: FluentType> FluentValue<'a, C> {
             ≡ W.text w.old ++ text_in S.formatted S.shown scope.now C.meaning self.now) }
         ensures refused { OnErr result (W.text w.new ≡ W.text w.old) }
     {
-        if let Some(formatted) = scope.format(self)? {
-            w.write_str(formatted.as_str())?;
+        if scope.is_plain(self) {
+            return self.write_plainly(w, scope);
+        }
+        match scope.format(self)? {
+            Some(formatted) => w.write_str(formatted.as_str())?,
+            None => self.write_plainly(w, scope)?,
+        }
+        Ok(())
+    }
+
+    /// Appends the same text to a `String`. A formatter that appends its text makes no other
+    /// `String` for it.
+    ///
+    /// # Errors
+    /// [`AllocError`] if memory runs out; `out` may hold a part of the text.
+    pub fn append_to<S: ValueScope<C>>(&self, out: &mut String, scope: &S) -> Result<(), AllocError>
+        ensures { OnOk result (string_bytes out.new
+            ≡ string_bytes out.old ++ text_in S.formatted S.shown scope.now C.meaning self.now) }
+    {
+        if !scope.is_plain(self) && scope.format_into(out, self)? {
             return Ok(());
         }
+        match self.write_plainly(out, scope) {
+            Ok(()) => Ok(()),
+            Err(_) => Err(AllocError),
+        }
+    }
+
+    /// Writes the text that the value is shown as without a formatter.
+    fn write_plainly<W: TextWrite, S: ValueScope<C>>(
+        &self,
+        w: &mut W,
+        scope: &S,
+    ) -> Result<(), WriteError>
+        ensures written { OnOk result (W.text w.new
+            ≡ W.text w.old ++ plain_text (S.shown scope.now) (value_view C.meaning self.now)) }
+        ensures refused { OnErr result (W.text w.new ≡ W.text w.old) }
+    {
         match self {
             FluentValue::String(text) => w.write_str(text.as_str())?,
             FluentValue::Number(number) => write_number(w, number, scope.alloc())?,

@@ -35,6 +35,38 @@ where
         }
     }
 
+    fn format_into(
+        &self,
+        out: &mut String,
+        value: &FluentValue<'_, C>,
+    ) -> Result<bool, AllocError> {
+        match &self.formatter {
+            Some(formatter) => formatter.format_into(out, self.alloc, value, &self.plurals),
+            None => Ok(false),
+        }
+    }
+
+    fn is_plain(&self, value: &FluentValue<'_, C>) -> bool {
+        match &self.formatter {
+            Some(formatter) => formatter.is_plain(value),
+            None => true,
+        }
+    }
+
+    fn keeps_texts(&self) -> bool {
+        match &self.formatter {
+            Some(formatter) => formatter.keeps_texts(),
+            None => true,
+        }
+    }
+
+    fn plain_below(&self) -> u64 {
+        match &self.formatter {
+            Some(formatter) => formatter.plain_below(),
+            None => u64::MAX,
+        }
+    }
+
     fn category(&self, rule: PluralRuleType, operands: &PluralOperands) -> PluralCategory {
         self.plurals.category(rule, operands)
     }

@@ -32,6 +32,26 @@ where
         self.bundle.format(value)
     }
 
+    fn format_into(
+        &self,
+        out: &mut String,
+        value: &FluentValue<'_, C>,
+    ) -> Result<bool, AllocError> {
+        self.bundle.format_into(out, value)
+    }
+
+    fn is_plain(&self, value: &FluentValue<'_, C>) -> bool {
+        self.bundle.is_plain(value)
+    }
+
+    fn keeps_texts(&self) -> bool {
+        self.bundle.keeps_texts()
+    }
+
+    fn plain_below(&self) -> u64 {
+        self.bundle.plain_below()
+    }
+
     fn category(&self, rule: PluralRuleType, operands: &PluralOperands) -> PluralCategory {
         self.bundle.plurals.category(rule, operands)
     }
