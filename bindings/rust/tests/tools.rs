@@ -15,6 +15,7 @@ fn reports() {
             "a.ftl:1:1: error: expected a message, a term or a comment, found `é` [syntax]",
             "a.ftl:2:8: error: a: there is no term `-b` [unknown-term]",
             "b.ftl:1:1: error: a: the entry at a.ftl:2:1 has the same id, so this one is never shown [duplicate-id]",
+            "b.ftl:1:5: warning: a: U+0007 is a control character [control-character]",
             "b.ftl:2:3: error: d: expected `=` after `d`, found `\u{202e}` [syntax]",
         ]
     );
@@ -22,7 +23,7 @@ fn reports() {
     assert_eq!(report.findings[1].offset, 15);
     assert_eq!(report.findings[1].severity, Severity::Error);
     assert_eq!(report.findings[1].hint, None);
-    assert_eq!(report.findings[3].hint.as_deref(), Some("a line that continues a text begins with at least one space"));
+    assert_eq!(report.findings[4].hint.as_deref(), Some("a line that continues a text begins with at least one space"));
 }
 
 #[test]

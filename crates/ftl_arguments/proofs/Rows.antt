@@ -171,8 +171,10 @@ codes_to_select : command_of false (codes "lint" ∷ codes "--select" ∷ codes 
       functions = [];
       ignored = codes "byte-order-mark" ∷ codes "duplicate-id" ∷ codes "unknown-message" ∷ codes "unknown-term" ∷ codes "unknown-attribute"
           ∷ codes "no-default" ∷ codes "cyclic-reference" ∷ codes "unknown-function" ∷ codes "duplicate-attribute" ∷ codes "duplicate-variant"
-          ∷ codes "invalid-escape" ∷ codes "unknown-option" ∷ codes "missing-category" ∷ codes "unused-term" ∷ codes "missing-message"
-          ∷ codes "missing-value" ∷ codes "missing-attribute" ∷ codes "obsolete-value" ∷ codes "obsolete-attribute" ∷ codes "unknown-variable"
+          ∷ codes "invalid-escape" ∷ codes "unknown-option" ∷ codes "missing-category" ∷ codes "placeable-in-literal" ∷ codes "unknown-term-argument"
+          ∷ codes "unknown-term-variant" ∷ codes "unknown-category" ∷ codes "unused-category" ∷ codes "replacement-character" ∷ codes "control-character"
+          ∷ codes "zero-width" ∷ codes "unbalanced-direction" ∷ codes "unused-term" ∷ codes "missing-message" ∷ codes "missing-value"
+          ∷ codes "missing-attribute" ∷ codes "obsolete-value" ∷ codes "obsolete-attribute" ∷ codes "unknown-variable" ∷ codes "missing-variable"
           ∷ codes "unused-variable" ∷ codes "obsolete-message" ∷ [];
       locale = None;
       notes = true;

@@ -35,8 +35,10 @@ finding_codes =
     codes "syntax" ∷ codes "byte-order-mark" ∷ codes "duplicate-id" ∷ codes "unknown-message" ∷ codes "unknown-term"
     ∷ codes "unknown-attribute" ∷ codes "no-value" ∷ codes "no-default" ∷ codes "cyclic-reference" ∷ codes "unknown-function" ∷ codes "duplicate-attribute"
     ∷ codes "duplicate-variant" ∷ codes "invalid-escape" ∷ codes "unknown-option" ∷ codes "missing-category"
+    ∷ codes "placeable-in-literal" ∷ codes "unknown-term-argument" ∷ codes "unknown-term-variant" ∷ codes "unknown-category"
+    ∷ codes "unused-category" ∷ codes "replacement-character" ∷ codes "control-character" ∷ codes "zero-width" ∷ codes "unbalanced-direction"
     ∷ codes "unused-term" ∷ codes "missing-message" ∷ codes "missing-value" ∷ codes "missing-attribute" ∷ codes "obsolete-value"
-    ∷ codes "obsolete-attribute" ∷ codes "unknown-variable" ∷ codes "unused-variable" ∷ codes "obsolete-message" ∷ codes "untranslated" ∷ []
+    ∷ codes "obsolete-attribute" ∷ codes "unknown-variable" ∷ codes "missing-variable" ∷ codes "unused-variable" ∷ codes "obsolete-message" ∷ codes "untranslated" ∷ []
 
 abbrev pub is_code : Text → Bool
 is_code name = list_any (λ code. bytes_eq code name) finding_codes

@@ -18,7 +18,7 @@ use lint_report::Format as ReportFormat;
 use std::alloc::Global;
 
 /// The codes that findings have.
-pub(crate) const CODES: [&str; 25] = [
+pub(crate) const CODES: [&str; 35] = [
     "syntax",
     "byte-order-mark",
     "duplicate-id",
@@ -34,6 +34,15 @@ pub(crate) const CODES: [&str; 25] = [
     "invalid-escape",
     "unknown-option",
     "missing-category",
+    "placeable-in-literal",
+    "unknown-term-argument",
+    "unknown-term-variant",
+    "unknown-category",
+    "unused-category",
+    "replacement-character",
+    "control-character",
+    "zero-width",
+    "unbalanced-direction",
     "unused-term",
     "missing-message",
     "missing-value",
@@ -41,6 +50,7 @@ pub(crate) const CODES: [&str; 25] = [
     "obsolete-value",
     "obsolete-attribute",
     "unknown-variable",
+    "missing-variable",
     "unused-variable",
     "obsolete-message",
     "untranslated",

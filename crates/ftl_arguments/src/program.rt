@@ -21,11 +21,13 @@ Example: printf 'welcome\\tname=Jane\\n' | ftl run hello.ftl";
 
 /// What follows the options in the help of `lint`.
 const CODES_AND_EXAMPLE: &str = "Codes:
-  syntax, byte-order-mark, duplicate-id, unknown-message, unknown-term, unknown-attribute, no-value,
-  no-default, cyclic-reference, unknown-function, duplicate-attribute, duplicate-variant,
-  invalid-escape, unknown-option, missing-category, unused-term, missing-message, missing-value,
-  missing-attribute, obsolete-value, obsolete-attribute, unknown-variable, unused-variable,
-  obsolete-message, untranslated
+  syntax, byte-order-mark, duplicate-id, unknown-message, unknown-term, unknown-attribute,
+  no-value, no-default, cyclic-reference, unknown-function, duplicate-attribute,
+  duplicate-variant, invalid-escape, unknown-option, missing-category, placeable-in-literal,
+  unknown-term-argument, unknown-term-variant, unknown-category, unused-category,
+  replacement-character, control-character, zero-width, unbalanced-direction, unused-term,
+  missing-message, missing-value, missing-attribute, obsolete-value, obsolete-attribute,
+  unknown-variable, missing-variable, unused-variable, obsolete-message, untranslated
 
 Example: ftl lint --reference locales/en locales/de";
 

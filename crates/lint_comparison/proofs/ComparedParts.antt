@@ -1,10 +1,12 @@
 -- The parts of the differences of a message, one after the other.
-use Rattle.std.proofs.Common.{◌≡◌, ◌∙◌, List, ◌++◌, ap, append_assoc, Bor}
+use Rattle.std.proofs.Common.{◌≡◌, ◌∙◌, Bool, List, ◌++◌, map, ap, append_assoc, Bor}
 use Rattle.lint_findings.specs.Comparison as c
-use Rattle.lint_findings.specs.Comparison.{attribute_names, value_difference}
+use Rattle.fluent_ast.specs.Borrowed.{message_of}
+use Rattle.fluent_ast.specs.declared.Message.{Message}
+use Rattle.lint_findings.specs.Comparison.{attribute_names, has_new, lost_variable, value_difference, variable_differences, without}
 use Rattle.fluent_grammar.specs.Tree as t
 use Rattle.fluent_grammar.specs.Words.{Text}
-use Rattle.lint_comparison.specs.Compared.{own_differences, variable_differences}
+use Rattle.lint_comparison.specs.Compared.{own_differences}
 use Rattle.lint_endless.specs.HasNames.{HasNames, texts}
 use Rattle.lint_comparison.specs.Lacks.{lacking}
 use Rattle.lint_comparison.specs.LackingAttributes.{names_of}
@@ -24,8 +26,9 @@ module _ (a b d e : List c.Difference) where
       ∙ ap (λ l. a ++ l) (append_assoc (value_difference m.value o.value) missing obsolete)
 
 module _ (a b d : List c.Difference) where
-  pub variables_added : (own others : Names) (xs vs : List Text) (ns ms : List (Bor Text)) → HasNames own xs → HasNames others vs → ns ≡ own.list.items → ms ≡ others.list.items →
-      b ≡ a ++ lacking of.UnknownVariable (texts ns) vs → d ≡ b ++ lacking of.UnusedVariable (texts ms) xs → d ≡ a ++ variable_differences xs vs
-  variables_added own others xs vs ns ms has has_too p q first second =
-      both_added a (lacking of.UnknownVariable xs vs) (lacking of.UnusedVariable vs xs)
-      (first ∙ ap (λ l. a ++ lacking of.UnknownVariable l vs) (ap texts p ∙ has.listed)) (second ∙ ap (λ l. b ++ lacking of.UnusedVariable l xs) (ap texts q ∙ has_too.listed))
+  pub variables_added : (other : Bor (Message (Bor Text))) (own others : Names) (xs vs : List Text) (ns ms : List (Bor Text)) (has_unknown : Bool) → HasNames own xs → HasNames others vs → ns ≡ own.list.items → ms ≡ others.list.items →
+      has_unknown ≡ has_new xs vs → b ≡ a ++ lacking of.UnknownVariable (texts ns) vs → d ≡ b ++ lacking (of.LostVariable has_unknown other) (texts ms) xs → d ≡ a ++ variable_differences (message_of other.now) xs vs
+  variables_added other own others xs vs ns ms has_unknown has has_too p q new first second =
+      let lost = λ (u : Bool) (l : List Text). map (lost_variable u (message_of other.now)) (without l xs) in
+      both_added a (lacking of.UnknownVariable xs vs) (lost (has_new xs vs) vs)
+      (first ∙ ap (λ l. a ++ lacking of.UnknownVariable l vs) (ap texts p ∙ has.listed)) (second ∙ ap (λ l. b ++ lost has_unknown l) (ap texts q ∙ has_too.listed) ∙ ap (λ u. b ++ lost u vs) new)

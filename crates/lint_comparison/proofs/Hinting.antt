@@ -28,6 +28,7 @@ no_hint names of.ObsoleteValue other = λ known has. refl
 no_hint names (of.MissingAttribute name) other = λ known has. refl
 no_hint names (of.ObsoleteAttribute name) other = λ known has. refl
 no_hint names (of.UnknownVariable name) other = absurd (other name refl)
+no_hint names (of.MissingVariable name) other = λ known has. refl
 no_hint names (of.UnusedVariable name) other = λ known has. refl
 no_hint names of.Untranslated other = λ known has. refl
 

@@ -10,3 +10,4 @@ pub mod MissingParts
 pub mod Naming
 pub mod Hinting
 pub mod Variables
+pub mod NewNames

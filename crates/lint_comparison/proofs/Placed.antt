@@ -38,6 +38,7 @@ at_message of.ObsoleteValue s attribute variable = refl
 at_message (of.MissingAttribute name) s attribute variable = refl
 at_message (of.ObsoleteAttribute name) s attribute variable = absurd (attribute name refl)
 at_message (of.UnknownVariable name) s attribute variable = absurd (variable name refl)
+at_message (of.MissingVariable name) s attribute variable = refl
 at_message (of.UnusedVariable name) s attribute variable = refl
 at_message of.Untranslated s attribute variable = refl
 

@@ -1,13 +1,11 @@
 -- The parts of the differences of a message.
-use Rattle.std.specs.Prelude.{Bool, if◌then◌else◌, List, [], ◌∷◌, ◌++◌, Vec}
-use Rattle.std.specs.Global.{Global}
-use Rattle.lint_finding.specs.declared.difference.Difference.{Difference}
+use Rattle.std.specs.Prelude.{◌≡◌, Bool, if◌then◌else◌, List, [], ◌∷◌, ◌++◌}
 use Rattle.lint_findings.specs.Comparison as c
-use Rattle.lint_findings.specs.Comparison.{attribute_names, untranslated, value_difference}
+use Rattle.lint_findings.specs.Comparison.{attribute_names, has_new, untranslated, value_difference}
 use Rattle.fluent_grammar.specs.Tree as t
 use Rattle.fluent_grammar.specs.Words.{Text}
 use Rattle.lint_endless.specs.HasNames.{HasNames}
-use Rattle.lint_comparison.specs.Lacks.{Adds, lacking}
+use Rattle.lint_comparison.specs.Lacks.{lacking}
 use Rattle.lint_comparison.specs.declared.lack.Lack.TheVariants as of
 use Rattle.lint_endless.specs.declared.names.Names.{Names}
 
@@ -18,13 +16,9 @@ own_differences m o =
     ++ (lacking of.MissingAttribute (attribute_names o) (attribute_names m)
     ++ lacking of.ObsoleteAttribute (attribute_names m) (attribute_names o))
 
--- of the variables of a message, compared with those of the other
-abbrev pub variable_differences : List Text → List Text → List c.Difference
-variable_differences variables others = lacking of.UnknownVariable variables others ++ lacking of.UnusedVariable others variables
-
 abbrev pub untranslated_if : Bool → List c.Difference
 untranslated_if is_same = if is_same then untranslated ∷ [] else []
 
--- those of variables that are listed
-abbrev pub AddsVariablesBy : Names → List Text → Vec Difference Global → Vec Difference Global → Type 0
-AddsVariablesBy variables others old new = (xs : List Text) → HasNames variables xs → Adds old new (variable_differences xs others)
+-- one of some names isn't among the others
+abbrev pub IsNewAmong : Bool → List Text → Names → Type 0
+IsNewAmong found names others = (ys : List Text) → HasNames others ys → found ≡ has_new names ys

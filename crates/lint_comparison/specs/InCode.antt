@@ -19,7 +19,12 @@ use Rattle.fluent_grammar.specs.Words.{Text}
 use Rattle.fluent_ids.specs.IdsView.{ids_view}
 use Rattle.fluent_ids.specs.declared.ids.FluentIds.{FluentIds}
 use Rattle.fluent_meaning.specs.Same.{same_elements}
-use Rattle.lint_comparison.specs.Compared.{untranslated_if, variable_differences}
+use Rattle.lint_comparison.specs.Compared.{untranslated_if}
+use Rattle.lint_findings.specs.Comparison.{variable_differences}
+use Rattle.lint_findings.specs.Shown.{elements_show}
+use Rattle.std.specs.List.{list_any}
+use Rattle.std.specs.Option.{option_to_list}
+use Rattle.lint_comparison.specs.Lacks.{Adds}
 use Rattle.lint_comparison.specs.Found.{AreFindingsBy, AreFoundIn}
 use Rattle.lint_endless.specs.HasNames.{HasNames}
 use Rattle.lint_endless.specs.declared.names.Names.{Names}
@@ -35,6 +40,11 @@ module _ (ids : FluentIds (Unit {0})) where
   abbrev pub AreVariablesOf : Text → Names → Type 0
   AreVariablesOf id names = HasNames names (variables_by id)
 
+-- those of variables that are listed, by the message of this id in the reference
+abbrev pub AddsVariablesBy : Message (Bor Text) → Names → FluentIds (Unit {0}) → Text → Vec Difference Global → Vec Difference Global → Type 0
+AddsVariablesBy other variables reference id old new =
+    (xs : List Text) → HasNames variables xs → Adds old new (variable_differences (message_of other) xs (variables_by reference id))
+
 module _ (ids reference : FluentIds (Unit {0})) where
   abbrev pub differences_by : Text → List c.Difference
   differences_by id = c.differences (ids_view (Unit {0}) ids) (ids_view (Unit {0}) reference) id
@@ -47,14 +57,21 @@ module _ (ids reference : FluentIds (Unit {0})) where
   abbrev pub message_differences_by : Text → Message (Bor Text) → Message (Bor Text) → List c.Difference
   message_differences_by id message other = c.message_differences (ids_view (Unit {0}) ids) (ids_view (Unit {0}) reference) id (message_of message) (message_of other)
 
-  abbrev pub variable_differences_by : Text → List c.Difference
-  variable_differences_by id = variable_differences (variables_by ids id) (variables_by reference id)
+  abbrev pub variables_between : Text → Message (Bor Text) → List c.Difference
+  variables_between id other = variable_differences (message_of other) (variables_by ids id) (variables_by reference id)
 
   -- the findings of a message at the front of a text, in this source
   abbrev pub AreFoundOf : Text → Message (Bor Text) → Text → Vec Finding Global → Type 0
   AreFoundOf source message text found = AreFoundIn (ids_view (Unit {0}) ids) (ids_view (Unit {0}) reference) source (t.message (message_of message)) text found
 
 -- ---- of messages
+
+-- whether a value, if there is one, or an attribute shows a variable
+abbrev pub value_shows : Option (Pattern (Bor Text)) → Text → Bool
+value_shows value x = list_any (elements_show x) (option_to_list (option_map elements_of value))
+
+abbrev pub attributes_show : List t.Attribute → Text → Bool
+attributes_show as' x = list_any (elements_show x) (map (λ (a : t.Attribute). a.value) as')
 
 abbrev pub values_difference : Option (Pattern (Bor Text)) → Option (Pattern (Bor Text)) → List c.Difference
 values_difference value other = c.value_difference (option_map elements_of value) (option_map elements_of other)

@@ -1,6 +1,7 @@
 -- The differences that names make which one of two messages lacks.
 use Rattle.std.specs.Prelude.{◌≡◌, List, [], ◌∷◌, ◌++◌, map, Vec}
 use Rattle.std.specs.Global.{Global}
+use Rattle.fluent_ast.specs.Borrowed.{message_of}
 use Rattle.lint_finding.specs.DifferenceView.{difference_view}
 use Rattle.lint_finding.specs.declared.difference.Difference.{Difference}
 use Rattle.lint_findings.specs.Comparison as c
@@ -16,7 +17,7 @@ abbrev pub lack_of : Lack → Text → c.Difference
 lack_of of.MissingAttribute name = c.missing_attribute name
 lack_of of.ObsoleteAttribute name = c.obsolete_attribute name
 lack_of of.UnknownVariable name = c.unknown_variable name
-lack_of of.UnusedVariable name = c.unused_variable name
+lack_of (of.LostVariable has_unknown other) name = c.lost_variable has_unknown (message_of other.now) name
 
 -- these differences are added after the others
 abbrev pub Adds : Vec Difference Global → Vec Difference Global → List c.Difference → Type 0

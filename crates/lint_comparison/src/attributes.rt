@@ -18,12 +18,12 @@ use std::alloc::{AllocError, Global};
 /// [`AllocError`] if memory runs out; some may be added then.
 pub fn push_lacking_attributes<'i, 's: 'i>(
     alloc: Global,
-    lack: Lack,
+    lack: Lack<'_, '_>,
     attributes: &[Attribute<&'s str>],
     others: &[Attribute<&'s str>],
     found: &mut Vec<Difference<'i>>,
 ) -> Result<(), AllocError>
-    ensures { OnOk result (AddsLackingOf lack attributes.now others.now found.old found.new) }
+    ensures { OnOk result (AddsLackingOf lack.entry attributes.now others.now found.old found.new) }
 {
     let names = names_of(alloc, others)?;
     push_lacking(lack, attributes, &names, found)
@@ -31,12 +31,12 @@ pub fn push_lacking_attributes<'i, 's: 'i>(
 
 /// Adds those whose names aren't among these.
 fn push_lacking<'i, 's: 'i>(
-    lack: Lack,
+    lack: Lack<'_, '_>,
     attributes: &[Attribute<&'s str>],
     names: &Names<'s>,
     found: &mut Vec<Difference<'i>>,
 ) -> Result<(), AllocError>
-    ensures { OnOk result (AddsLackingNames lack (attributes_of attributes.now) names.now found.old found.new) }
+    ensures { OnOk result (AddsLackingNames lack.entry (attributes_of attributes.now) names.now found.old found.new) }
 {
     for attribute in attributes {
         lack.push_if_new(attribute.id.name, names, found)?;

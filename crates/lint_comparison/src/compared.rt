@@ -3,8 +3,9 @@
 
 ghost use Rattle.std.specs.Prelude.{IfOk, OnOk};
 ghost use Rattle.fluent_ast.specs.Borrowed.{message_of};
-ghost use Rattle.lint_comparison.specs.Compared.{AddsVariablesBy, own_differences};
-ghost use Rattle.lint_comparison.specs.InCode.{AreDifferencesOf, AreVariablesOf, differences_by, message_differences_by, untranslated_by, values_difference, variable_differences_by, variables_by};
+ghost use Rattle.lint_comparison.specs.Compared.{IsNewAmong, own_differences};
+ghost use Rattle.lint_endless.specs.HasNames.{texts};
+ghost use Rattle.lint_comparison.specs.InCode.{AddsVariablesBy, AreDifferencesOf, AreVariablesOf, differences_by, message_differences_by, untranslated_by, values_difference, variables_between};
 ghost use Rattle.lint_comparison.specs.Lacks.{Adds};
 
 use crate::attributes::push_lacking_attributes;
@@ -93,7 +94,7 @@ fn push_of_both<'i, 's: 'i>(
     ensures known { IfOk result (AreVariablesOf reference.now id.now) }
 {
     push_of_message(alloc, message, other, found)?;
-    let variables = push_variables(alloc, ids, reference, id, found)?;
+    let variables = push_variables(alloc, ids, reference, id, other, found)?;
     push_untranslated(message, other, found)?;
     Ok(variables)
 }
@@ -136,14 +137,15 @@ fn push_variables<'i, 's: 'i>(
     ids: &CatalogIds<'_, 's>,
     reference: &CatalogIds<'_, 's>,
     id: &'i str,
+    other: &Message<&'s str>,
     found: &mut Vec<Difference<'i>>,
 ) -> Result<Names<'i>, AllocError>
     ensures added { OnOk result (Adds found.old found.new
-        (variable_differences_by ids.now reference.now id.now)) }
+        (variables_between ids.now reference.now id.now other.now)) }
     ensures known { IfOk result (AreVariablesOf reference.now id.now) }
 {
     let variables = variables_of(alloc, ids, id)?;
-    push_variables_by(alloc, &variables, reference, id, found)
+    push_variables_by(alloc, &variables, reference, id, other, found)
 }
 
 /// Adds those of these variables of the message of the catalog. The result is the variables of the
@@ -153,16 +155,31 @@ fn push_variables_by<'i, 's: 'i>(
     variables: &Names<'i>,
     reference: &CatalogIds<'_, 's>,
     id: &'i str,
+    other: &Message<&'s str>,
     found: &mut Vec<Difference<'i>>,
 ) -> Result<Names<'i>, AllocError>
-    ensures added { OnOk result (AddsVariablesBy variables.now (variables_by reference.now id.now)
+    ensures added { OnOk result (AddsVariablesBy other.now variables.now reference.now id.now
         found.old found.new) }
     ensures known { IfOk result (AreVariablesOf reference.now id.now) }
 {
     let others = variables_of(alloc, reference, id)?;
     Lack::UnknownVariable.push_new(&variables.list, &others, found)?;
-    Lack::UnusedVariable.push_new(&others.list, variables, found)?;
+    let has_unknown = has_new(&variables.list, &others);
+    let lost = Lack::LostVariable { has_unknown, other };
+    lost.push_new(&others.list, variables, found)?;
     Ok(others)
+}
+
+/// Whether one of some names is none of the others.
+fn has_new(names: &[&str], others: &Names<'_>) -> bool
+    ensures { IsNewAmong result (texts names.now) others.now }
+{
+    for name in names {
+        if !others.has(name) {
+            return true;
+        }
+    }
+    false
 }
 
 /// Adds that a message has the text of the other, if it has.

@@ -6,29 +6,43 @@ ghost use Rattle.lint_comparison.specs.Lacks.{AddsIfLacking, AddsLacking, lack_o
 ghost use Rattle.lint_endless.specs.HasNames.{texts};
 ghost use Rattle.lint_finding.specs.DifferenceView.{difference_view};
 
+use crate::shown::message_shows;
+use fluent_ast::Message;
 use lint_endless::Names;
 use lint_finding::Difference;
 use std::alloc::AllocError;
 
 /// A kind of names that one of two messages lacks.
 #[derive(Clone, Copy)]
-pub enum Lack {
+pub enum Lack<'m, 's> {
     MissingAttribute,
     ObsoleteAttribute,
     UnknownVariable,
-    UnusedVariable,
+    /// A variable of the message of the reference.
+    LostVariable {
+        /// The message of the catalog has a variable that may be meant.
+        has_unknown: bool,
+        /// The message of the reference.
+        other: &'m Message<&'s str>,
+    },
 }
 
-impl Lack {
+impl Lack<'_, '_> {
     /// The difference that a name of this kind makes.
-    fn of<'s>(self, name: &'s str) -> Difference<'s>
-        ensures { difference_view result ≡ lack_of self name.now }
+    fn of<'n>(self, name: &'n str) -> Difference<'n>
+        ensures { difference_view result ≡ lack_of self.entry name.now }
     {
         match self {
             Lack::MissingAttribute => Difference::MissingAttribute(name),
             Lack::ObsoleteAttribute => Difference::ObsoleteAttribute(name),
             Lack::UnknownVariable => Difference::UnknownVariable(name),
-            Lack::UnusedVariable => Difference::UnusedVariable(name),
+            Lack::LostVariable { has_unknown, other } => {
+                if !has_unknown && message_shows(other, name) {
+                    Difference::MissingVariable(name)
+                } else {
+                    Difference::UnusedVariable(name)
+                }
+            }
         }
     }
 
@@ -42,7 +56,7 @@ impl Lack {
         others: &Names<'_>,
         found: &mut Vec<Difference<'s>>,
     ) -> Result<(), AllocError>
-        ensures { OnOk result (AddsIfLacking self name.now others.now found.old found.new) }
+        ensures { OnOk result (AddsIfLacking self.entry name.now others.now found.old found.new) }
     {
         if !others.has(name) {
             found.push(self.of(name))?;
@@ -60,7 +74,7 @@ impl Lack {
         others: &Names<'_>,
         found: &mut Vec<Difference<'s>>,
     ) -> Result<(), AllocError>
-        ensures { OnOk result (AddsLacking self (texts names.now) others.now found.old found.new) }
+        ensures { OnOk result (AddsLacking self.entry (texts names.now) others.now found.old found.new) }
     {
         for name in names {
             self.push_if_new(name, others, found)?;

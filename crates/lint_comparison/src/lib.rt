@@ -24,6 +24,7 @@ mod places;
 mod reference;
 mod referred;
 mod same;
+mod shown;
 
 pub use findings::{message_findings, missing_finding};
 pub use missing::missing_findings;

@@ -8,6 +8,7 @@ ghost use Rattle.fluent_ids.specs.IdsView.{ids_view};
 ghost use Rattle.lint_comparison.specs.Missing.{missing_in, missing_of_part};
 ghost use Rattle.lint_entries.specs.Kept.{parts};
 ghost use Rattle.lint_entries.specs.TileView.{tile_view};
+ghost use Rattle.lint_flaws.specs.Said.{known};
 
 use crate::missing_finding;
 use fluent_ast::Entry;
@@ -45,7 +46,7 @@ fn push_missing(
     found: &mut Vec<Finding>,
 ) -> Result<(), AllocError>
     ensures { OnOk result (Adds found.old found.new
-        (missing_of_part (ids_view _ ids.now) source.now (tile_view tile.now))) }
+        (missing_of_part (known ids.now) source.now (tile_view tile.now))) }
 {
     match tile {
         Tile::Entry(entry, text) => match entry {

@@ -1,5 +1,5 @@
 -- What each call adds to the findings.
-use Rattle.std.specs.Prelude.{◌≡◌, List, [], map, Option, Vec}
+use Rattle.std.specs.Prelude.{◌≡◌, ◌-◌, List, [], length, map, take, Option, Vec}
 use Rattle.std.specs.Global.{Global}
 use denote.Ref.{Bor}
 use Rattle.fluent_ast.specs.Borrowed.{attributes_of, elements_of}
@@ -8,12 +8,15 @@ use Rattle.fluent_ast.specs.declared.Pattern.{Pattern}
 use Rattle.lint_finding.specs.declared.records.Finding.{Finding}
 use Rattle.lint_finding.specs.View.{remark_view}
 use Rattle.lint_finding.specs.declared.remark.Remark.{Remark}
+use Rattle.lint_findings.specs.EntryFindings.{finding_in}
 use Rattle.lint_findings.specs.Finding as f
+use Rattle.lint_findings.specs.Letters.{letters}
 use Rattle.lint_findings.specs.Occurrences.{pattern_read}
 use Rattle.fluent_grammar.specs.Refusal.{got}
 use Rattle.fluent_grammar.specs.Tree.{Elements}
 use Rattle.fluent_grammar.specs.Words.{Text}
 use Rattle.fluent_meaning.specs.Ids.{Ids}
+use Rattle.lint_entries.specs.Labels.{label_text}
 use Rattle.lint_nodes.specs.NodeView.{node_view}
 use Rattle.lint_nodes.specs.declared.nodes.Node.{Node}
 use Rattle.lint_nodes.specs.OccurrenceView.{occurrence_view}
@@ -33,6 +36,11 @@ LeavesAfter es s rest = pattern_read s ≡ got es rest
 -- the findings of a pattern with a name at this place, in the source from its first byte on
 abbrev pub AddsPattern : Catalog → EntryPoint → Text → Pattern (Bor Text) → Vec Finding Global → Vec Finding Global → Type 0
 AddsPattern catalog name s pattern old new = Adds old new (pattern_found catalog name s (elements_of pattern))
+
+-- those of the characters that stand before a rest, of a pattern whose owner is that of this place
+abbrev pub AddsLetters : EntryPoint → Text → Text → Vec Finding Global → Vec Finding Global → Type 0
+AddsLetters name s rest old new =
+    Adds old new (map (finding_in name.source.now (label_text name.label) s) (letters (take (length s - length rest) s)))
 
 -- those of a value, which may be none
 abbrev pub AddsValue : Catalog → EntryPoint → Text → Option Elements → Vec Finding Global → Vec Finding Global → Type 0

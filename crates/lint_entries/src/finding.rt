@@ -1,12 +1,13 @@
 //! How findings are made.
 #![tactic(auto)]
 
-ghost use Rattle.std.specs.Prelude.{◌≡◌, ◌-◌, IfOk, OnOk, length, map, option_to_list};
+ghost use Rattle.std.specs.Prelude.{◌≡◌, ◌-◌, IfOk, OnOk, drop, length, map, option_to_list};
 ghost use Rattle.lint_entries.specs.Made.{Adds, made_of};
 ghost use Rattle.lint_finding.specs.View.{finding_view, remark_view};
 
 use crate::label::Label;
 use lint_finding::{Finding, Remark};
+use lint_nodes::skip;
 use std::alloc::{AllocError, Global};
 
 /// A place in an entry or in one of its attributes: the source from there on.
@@ -26,14 +27,17 @@ impl EntryPoint<'_, '_, '_> {
         ensures { IfOk result (λ made. finding_view made ≡ made_of self.now (remark_view remark)) }
     {
         let entry = self.label.to_string(alloc)?;
-        Ok(remark.at(self.offset(), entry))
+        let offset = self.offset(remark.inside);
+        Ok(remark.at(offset, entry))
     }
 
-    /// How many bytes of the source stand before the place.
-    fn offset(&self) -> usize
-        ensures { result ≡ length self.now.source.now - length self.now.at.now }
+    /// How many bytes of the source stand before what follows this many bytes of the place.
+    fn offset(&self, inside: usize) -> usize
+        ensures { result ≡ length self.now.source.now - length (drop inside self.now.at.now) }
     {
-        self.source.len().saturating_sub(self.at.len())
+        self.source
+            .len()
+            .saturating_sub(skip(self.at, inside).len())
     }
 }
 

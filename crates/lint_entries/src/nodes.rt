@@ -60,7 +60,10 @@ fn push_node<'s>(
 }
 
 /// Adds the findings of remarks at a place.
-fn push_remarks(
+///
+/// # Errors
+/// [`AllocError`] if memory runs out; `findings` then holds its old findings and some of these.
+pub fn push_remarks(
     alloc: Global,
     place: &EntryPoint<'_, '_, '_>,
     remarks: Vec<Remark>,

@@ -3,7 +3,7 @@
 
 ghost use Rattle.std.specs.Prelude.{◌≡◌, IfOk, OnOk};
 ghost use Rattle.fluent_ast.specs.Borrowed.{elements_of};
-ghost use Rattle.lint_entries.specs.Added.{AddsPattern, LeavesAfter, endless_among};
+ghost use Rattle.lint_entries.specs.Added.{AddsLetters, AddsPattern, LeavesAfter, endless_among};
 ghost use Rattle.lint_entries.specs.CatalogView.{ids_in};
 ghost use Rattle.lint_entries.specs.FirstEndless.{goes_on_remark};
 ghost use Rattle.lint_entries.specs.Labels.{label_text};
@@ -15,15 +15,17 @@ use crate::catalog::Catalog;
 use crate::endless::first_entered;
 use crate::finding::EntryPoint;
 use crate::label::Label;
-use crate::nodes::push_occurrences;
+use crate::nodes::{push_occurrences, push_remarks};
 use fluent_ast::Pattern;
+use fluent_tokens::front;
 use lint_finding::{Finding, Remark};
+use lint_flaws::letter_remarks;
 use lint_nodes::{Occurrence, pattern_occurrences};
 use std::alloc::{AllocError, Global};
 
 /// Adds the findings of a pattern: whether its references end, at the name that it has, and then
-/// those of its nodes. The text is the source from the pattern on. Returns what follows the
-/// pattern.
+/// those of its nodes and of its characters. The text is the source from the pattern on. Returns
+/// what follows the pattern.
 ///
 /// # Errors
 /// [`AllocError`] if memory runs out; `findings` then holds its old findings and some of these.
@@ -50,7 +52,28 @@ pub fn push_pattern<'s, 't>(
         &found.occurrences,
         findings,
     )?;
+    push_letters(alloc, name, text, found.rest, findings)?;
     Ok(found.rest)
+}
+
+/// Adds the findings of the characters of a pattern, which stand before this rest.
+fn push_letters(
+    alloc: Global,
+    name: &EntryPoint<'_, '_, '_>,
+    text: &[u8],
+    rest: &[u8],
+    findings: &mut Vec<Finding>,
+) -> Result<(), AllocError>
+    ensures { OnOk result (AddsLetters name.now text.now rest.now findings.old findings.new) }
+{
+    let len = text.len().saturating_sub(rest.len());
+    let place = EntryPoint {
+        source: name.source,
+        at: text,
+        label: name.label,
+    };
+    let remarks = letter_remarks(alloc, front(text, len))?;
+    push_remarks(alloc, &place, remarks, findings)
 }
 
 /// Adds the finding that the references of a pattern with these occurrences never end, if they

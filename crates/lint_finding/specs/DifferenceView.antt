@@ -1,5 +1,5 @@
 -- The plain differences that differences stand for.
-use Rattle.std.specs.Prelude.{◌≡◌, ℕ, Option, Some, option_map, String, string_bytes}
+use Rattle.std.specs.Prelude.{◌≡◌, ℕ, Option, option_map, String, string_bytes}
 use Rattle.std.specs.Global.{Global}
 use Rattle.fluent_grammar.specs.Words.{Text}
 use Rattle.lint_findings.specs.Comparison as c
@@ -18,6 +18,7 @@ difference_view of.ObsoleteValue = c.obsolete_value
 difference_view (of.MissingAttribute name) = c.missing_attribute name.now
 difference_view (of.ObsoleteAttribute name) = c.obsolete_attribute name.now
 difference_view (of.UnknownVariable name) = c.unknown_variable name.now
+difference_view (of.MissingVariable name) = c.missing_variable name.now
 difference_view (of.UnusedVariable name) = c.unused_variable name.now
 difference_view of.Untranslated = c.untranslated
 

@@ -32,6 +32,7 @@ remark_view r = record {
   severity = severity_view r.severity;
   text = string_bytes r.text;
   hint = option_map string_bytes r.hint;
+  inside = r.inside;
 }
 
 abbrev pub file_view : File → files.File

@@ -28,6 +28,8 @@ pub enum Difference<'s> {
     ObsoleteAttribute(&'s str),
     /// Only that of the catalog is shown with this variable.
     UnknownVariable(&'s str),
+    /// Only that of the reference shows this variable.
+    MissingVariable(&'s str),
     /// Only that of the reference is shown with this variable.
     UnusedVariable(&'s str),
     /// Both have the same value and attributes.
@@ -71,6 +73,10 @@ impl Difference<'_> {
             Difference::UnknownVariable(name) => Ok(Remark::error(
                 "unknown-variable",
                 format!(in alloc; "the reference has no variable `${name}`")?,
+            )),
+            Difference::MissingVariable(name) => Ok(Remark::warning(
+                "missing-variable",
+                format!(in alloc; "the reference shows `${name}`")?,
             )),
             Difference::UnusedVariable(name) => Ok(Remark::note(
                 "unused-variable",

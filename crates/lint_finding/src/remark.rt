@@ -17,6 +17,8 @@ pub struct Remark {
     pub text: String,
     /// What may be the cause, or what to write instead.
     pub hint: Option<String>,
+    /// How many bytes stand before it in what it is about.
+    pub inside: usize,
 }
 
 impl Remark {
@@ -49,6 +51,7 @@ impl Remark {
             severity,
             text,
             hint: None,
+            inside: 0,
         }
     }
 
@@ -58,6 +61,13 @@ impl Remark {
             ≡ record (remark_view self) { hint = option_map string_bytes hint } }
     {
         Remark { hint, ..self }
+    }
+
+    /// The remark on what stands after this many bytes, in place of its own.
+    pub fn within(self, inside: usize) -> Remark
+        ensures { remark_view result ≡ record (remark_view self) { inside = inside } }
+    {
+        Remark { inside, ..self }
     }
 
     /// The finding of the remark, at an offset. `entry` is the entry or the attribute that it is

@@ -179,7 +179,8 @@ module _ (rules : Rules) where
         let b = never_ends rules.ids es in
         let endless = is_pattern_among es (endless_patterns rules.ids) in
         let first = all_left HasHarmlessCode (if b then finding_in source owner place.name_at (endless_remark rules.ids rules.reference es) ∷ [] else []) _ h in
-        let others = all_right HasHarmlessCode (if b then finding_in source owner place.name_at (endless_remark rules.ids rules.reference es) ∷ [] else []) _ h in
+        let later = all_right HasHarmlessCode (if b then finding_in source owner place.name_at (endless_remark rules.ids rules.reference es) ∷ [] else []) _ h in
+        let others = all_left HasHarmlessCode (nodes_findings rules.ids rules.reference rules.plurals source owner place.pattern_at (elements_nodes es) (occurrences place.pattern_at)) _ later in
         let resolved = elements_resolved (find rules.ids) es (nodes_are_resolved owner place.pattern_at (elements_nodes es) (occurrences place.pattern_at) others) in
         All-append IsHarmless (map unresolved (pattern_errors (find rules.ids) es)) _ (errors_are_harmless (find rules.ids) (elements_references es) resolved.0)
         (All-append IsHarmless (flat_map select_flaws (elements_selects es)) _ (selects_are_harmless (elements_selects es) resolved.1) (ends es owner place.name_at b endless (endless_goes_on rules.ids es) first))

@@ -3,7 +3,7 @@ use Rattle.std.specs.Prelude.{◌≡◌, [], ◌∷◌, List, codes}
 use Rattle.std.proofs.Common.{refl}
 use Rattle.fluent_grammar.specs.Words.{Text}
 use Rattle.lint_findings.specs.Flaws.{catalog_ids}
-use Rattle.lint_findings.specs.Comparison.{Difference, missing_message, obsolete_message, missing_value, missing_attribute, obsolete_attribute, unknown_variable, unused_variable, untranslated, all_differences}
+use Rattle.lint_findings.specs.Comparison.{Difference, missing_message, obsolete_message, missing_value, missing_attribute, obsolete_attribute, unknown_variable, missing_variable, unused_variable, untranslated, all_differences}
 use Rattle.lint_findings.proofs.Computing.{computing_findings}
 
 -- How a translation differs from a reference.
@@ -26,6 +26,11 @@ another_shape = refl
 another_variable : Differs (codes "a = { $nmae }!\n") (codes "a = { $name }\n") ((codes "a", unknown_variable (codes "nmae")) ∷ (codes "a", unused_variable (codes "name")) ∷ [])
 unfolding computing_findings Differs
 another_variable = refl
+
+-- of the reference's variables one is shown, and one is only chosen by
+lost_variables : Differs (codes "a = x\n") (codes "a = { $n ->\n   *[x] { NUMBER($m) }\n }\n") ((codes "a", unused_variable (codes "n")) ∷ (codes "a", missing_variable (codes "m")) ∷ [])
+unfolding computing_findings Differs
+lost_variables = refl
 
 -- messages that are referred to get the same arguments, and terms don't
 variables_come_by_messages : Differs (codes "a = { $n }\nb = { $n }\n-t = { $k }\n") (codes "a = { b }\nb = { $n }, { $n }\n-t = { $j }\n") []

@@ -26,7 +26,9 @@ use Rattle.lint_findings.specs.Nodes.{Node, expression, select, repeated_key, el
 use Rattle.lint_findings.specs.Occurrences.{Occurrence, occurrences, inline_read, pattern_read, PatternPlace}
 use Rattle.lint_findings.specs.Finding.{Finding, Remark}
 use Rattle.lint_findings.proofs.NodeRemarks.{flaw_finding, node_findings_are, IsPlain, doubts_are_plain}
-use Rattle.lint_findings.specs.EntryFindings.{endless_remark, finding_in, node_flaws, node_doubts, node_findings, nodes_findings, pattern_findings, attribute_findings, patterns_findings, pattern_places, entry_findings}
+use Rattle.lint_findings.proofs.LetterRemarks.{letters_are_plain}
+use Rattle.lint_findings.specs.Letters.{letters}
+use Rattle.lint_findings.specs.EntryFindings.{endless_remark, finding_in, node_flaws, node_doubts, node_findings, nodes_findings, pattern_text, pattern_findings, attribute_findings, patterns_findings, pattern_places, entry_findings}
 use Rattle.lint_findings.specs.Files.{File}
 use Rattle.lint_findings.specs.DuplicateIds.{Declaration, id_of, duplicate_findings}
 use Rattle.lint_findings.specs.UnusedTerms.{unused_findings}
@@ -170,7 +172,7 @@ module _ (S : Type 0) (rules : Rules) (file : File) where
       of_node node read known =
           subst AreSound (sym (node_findings_are rules.ids rules.reference rules.plurals source owner at node))
           (both (map (flaw_finding rules.ids rules.reference source owner at) (node_flaws rules.ids node)) _ (of_flaws node read known)
-          (of_doubts (node_doubts rules.plurals node) (doubts_are_plain rules.plurals node)))
+          (of_doubts (node_doubts rules.ids rules.plurals node) (doubts_are_plain rules.ids rules.plurals node)))
 
     of_nodes : (s : Text) → EndsIn s source → (at : Text) (os : List Occurrence) → All (IsReadIn s) os → All (IsOfSelects (source_selects source)) (nodes os) →
         AreSound (nodes_findings rules.ids rules.reference rules.plurals source owner at (nodes os) os)
@@ -189,8 +191,10 @@ module _ (S : Type 0) (rules : Rules) (file : File) where
       let known = more (elements_selects es) (source_selects source) (elements_nodes es) among (elements_known es) in
       both (if never_ends rules.ids es then finding_in source owner place.name_at (endless_remark rules.ids rules.reference es) ∷ [] else []) _
       (if_one (never_ends rules.ids es) (finding_in source owner place.name_at (endless_remark rules.ids rules.reference es)) (plain _ refl refl refl))
+      (both (nodes_findings rules.ids rules.reference rules.plurals source owner place.pattern_at (elements_nodes es) os) _
       (subst (λ ns. AreSound (nodes_findings rules.ids rules.reference rules.plurals source owner place.pattern_at ns os)) same
       (of_nodes owner place.pattern_at h place.pattern_at os (occurrences_are_read place.pattern_at) (subst (All (IsOfSelects (source_selects source))) (sym same) known)))
+      (of_doubts owner place.pattern_at h (letters (pattern_text place.pattern_at)) (letters_are_plain (pattern_text place.pattern_at))))
 
   abbrev HasSelects : Owner × Elements → Type 0
   HasSelects p = AreAmong (elements_selects p.1) (source_selects source)

@@ -12,7 +12,7 @@ use Rattle.fluent_grammar.specs.Tree as t
 use Rattle.fluent_grammar.specs.Tiling.{errors}
 use Rattle.fluent_meaning.specs.Ids.{Ids, find}
 use Rattle.lint_findings.specs.Tiles.{Tile, entry_tile, junk_tile, tiles}
-use Rattle.lint_findings.specs.Comparison.{Difference, missing_message, obsolete_message, missing_value, obsolete_value, missing_attribute, obsolete_attribute, unknown_variable, unused_variable, untranslated, differences, variables_of, as_message}
+use Rattle.lint_findings.specs.Comparison.{Difference, missing_message, obsolete_message, missing_value, obsolete_value, missing_attribute, obsolete_attribute, unknown_variable, missing_variable, unused_variable, untranslated, differences, variables_of, as_message}
 use Rattle.lint_findings.specs.ComparisonFindings.{difference_finding, message_findings, missing_findings}
 use Rattle.lint_findings.specs.Finding.{Finding}
 use Rattle.lint_findings.specs.SyntaxFindings.{begins_marked, mark_finding, refusal_finding, syntax_finding}
@@ -36,6 +36,7 @@ module _ (S : Type 0) (rules : Rules) (file : File) where
   of_difference id s known (missing_attribute a) = plain S rules file _ refl refl refl
   of_difference id s known (obsolete_attribute a) = plain S rules file _ refl refl refl
   of_difference id s known (unknown_variable x) = plain S rules file _ refl refl refl
+  of_difference id s known (missing_variable x) = plain S rules file _ refl refl refl
   of_difference id s known (unused_variable x) = plain S rules file _ refl refl refl
   of_difference id s known untranslated = plain S rules file _ refl refl refl
 

@@ -6,6 +6,7 @@ mod CatalogRows
 mod NumberRow
 mod DateRow
 mod CategoryRows
+mod FactRows
 mod NearNameRows
 mod ComparisonRows
 mod ReferenceRows
@@ -20,6 +21,10 @@ pub mod FlawlessCatalogs
 pub mod NodesHold
 pub mod ProgramIds
 pub mod NodeRemarks
+pub mod LetterRemarks
+pub mod QuotedAreSpelled
+pub mod FactsAreTrue
+pub mod MissingVariables
 pub mod CleanReports
 pub mod Positions
 pub mod OccurrencesAreRead

@@ -13,6 +13,9 @@ use Rattle.lint_findings.specs.FindingLaws.{syntax_codes, reference_codes}
 use Rattle.lint_findings.specs.Flaws.{Flaw}
 use Rattle.lint_findings.specs.Nodes.{Node}
 use Rattle.lint_findings.specs.Misuses.{misuse_remark}
+use Rattle.fluent_number.specs.declared.plural.PluralCategory.{PluralCategory}
+use Rattle.fluent_number.specs.declared.plural.PluralCategory.TheVariants.{ZERO, ONE, TWO, FEW, MANY, OTHER}
+use Rattle.lint_findings.specs.Facts.{Fact, quoted_placeable, unused_argument, unknown_value, lacking_category, nearly_category, node_facts, lacking_remark, fact_remark}
 use Rattle.lint_findings.specs.EntryFindings.{flaw_remark, category_remark, escape_remark, node_flaws, node_categories, node_escapes, node_misuses, node_doubts, node_findings, finding_in}
 
 -- of a flaw of a node
@@ -25,12 +28,12 @@ made make say (x ∷ xs) = ap (λ ys. make (say x) ∷ ys) (made make say xs)
 
 module _ {F : Type 0} (ids reference : Ids F) (plurals : Option LanguagePlurals) (source owner at : Text) where
   pub node_findings_are : (node : Node) → node_findings ids reference plurals source owner at node
-      ≡ map (flaw_finding ids reference source owner at) (node_flaws ids node) ++ map (finding_in source owner at) (node_doubts plurals node)
+      ≡ map (flaw_finding ids reference source owner at) (node_flaws ids node) ++ map (finding_in source owner at) (node_doubts ids plurals node)
   node_findings_are node =
       let make = finding_in source owner at in
       let flaws = node_flaws ids node in
-      map-append make (map (flaw_remark ids reference) flaws) (node_doubts plurals node)
-      ∙ ap (λ fs. fs ++ map make (node_doubts plurals node)) (made make (flaw_remark ids reference) flaws)
+      map-append make (map (flaw_remark ids reference) flaws) (node_doubts ids plurals node)
+      ∙ ap (λ fs. fs ++ map make (node_doubts ids plurals node)) (made make (flaw_remark ids reference) flaws)
 
 -- a remark with a code that no law is about
 pub record IsPlain (r : Remark) : Type 0 where
@@ -42,10 +45,28 @@ all_plain : {A : Type 0} (say : A → Remark) → ((x : A) → IsPlain (say x)) 
 all_plain say h [] = All-nil IsPlain
 all_plain say h (x ∷ xs) = All-cons IsPlain (say x) (map say xs) (h x) (all_plain say h xs)
 
-pub doubts_are_plain : (plurals : Option LanguagePlurals) (node : Node) → All IsPlain (node_doubts plurals node)
-doubts_are_plain plurals node =
+lacking_is_plain : (cs : List PluralCategory) (c : PluralCategory) → IsPlain (lacking_remark cs c)
+lacking_is_plain [] ONE = record { no_syntax = refl; no_reference = refl; no_variant = refl }
+lacking_is_plain [] ZERO = record { no_syntax = refl; no_reference = refl; no_variant = refl }
+lacking_is_plain [] TWO = record { no_syntax = refl; no_reference = refl; no_variant = refl }
+lacking_is_plain [] FEW = record { no_syntax = refl; no_reference = refl; no_variant = refl }
+lacking_is_plain [] MANY = record { no_syntax = refl; no_reference = refl; no_variant = refl }
+lacking_is_plain [] OTHER = record { no_syntax = refl; no_reference = refl; no_variant = refl }
+lacking_is_plain (c ∷ cs) d = record { no_syntax = refl; no_reference = refl; no_variant = refl }
+
+fact_is_plain : (fact : Fact) → IsPlain (fact_remark fact)
+fact_is_plain (quoted_placeable q) = record { no_syntax = refl; no_reference = refl; no_variant = refl }
+fact_is_plain (unused_argument id nodes x) = record { no_syntax = refl; no_reference = refl; no_variant = refl }
+fact_is_plain (unknown_value id nodes x raw s) = record { no_syntax = refl; no_reference = refl; no_variant = refl }
+fact_is_plain (lacking_category cs c) = lacking_is_plain cs c
+fact_is_plain (nearly_category s) = record { no_syntax = refl; no_reference = refl; no_variant = refl }
+
+pub doubts_are_plain : {F : Type 0} (ids : Ids F) (plurals : Option LanguagePlurals) (node : Node) → All IsPlain (node_doubts ids plurals node)
+doubts_are_plain ids plurals node =
     All-append IsPlain (map category_remark (node_categories plurals node)) _
     (all_plain category_remark (λ c. record { no_syntax = refl; no_reference = refl; no_variant = refl }) (node_categories plurals node))
     (All-append IsPlain (map escape_remark (node_escapes node)) _
     (all_plain escape_remark (λ x. record { no_syntax = refl; no_reference = refl; no_variant = refl }) (node_escapes node))
-    (all_plain misuse_remark (λ m. record { no_syntax = refl; no_reference = refl; no_variant = refl }) (node_misuses node)))
+    (All-append IsPlain (map misuse_remark (node_misuses node)) _
+    (all_plain misuse_remark (λ m. record { no_syntax = refl; no_reference = refl; no_variant = refl }) (node_misuses node))
+    (all_plain fact_remark fact_is_plain (node_facts ids plurals node))))

@@ -24,7 +24,7 @@ unfolding computing_findings file ReportsWithReference
 arguments_go_on_to_messages = refl
 
 with_notes : ReportsWithReference true (file (codes "en.ftl") (codes "a = b\nc = { $m } { $n }\n") ∷ []) (file (codes "de.ftl") (codes "a = b\nc = { $n ->\n   *[other] eins\n }\nd = x\n") ∷ [])
-    (codes "de.ftl:1:1: note: a: the text is the same as in the reference [untranslated]\n1 | a = b\n  | ^\nde.ftl:2:1: note: c: the variable `$m` of the reference isn't used [unused-variable]\n2 | c = { $n ->\n  | ^\nde.ftl:5:1: note: d: the reference has no such message [obsolete-message]\n5 | d = x\n  | ^\n")
+    (codes "de.ftl:1:1: note: a: the text is the same as in the reference [untranslated]\n1 | a = b\n  | ^\nde.ftl:2:1: warning: c: the reference shows `$m` [missing-variable]\n2 | c = { $n ->\n  | ^\nde.ftl:5:1: note: d: the reference has no such message [obsolete-message]\n5 | d = x\n  | ^\n")
 unfolding computing_findings file ReportsWithReference
 with_notes = refl
 

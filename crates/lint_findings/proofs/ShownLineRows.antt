@@ -31,7 +31,8 @@ a_combining_character = refl
 -- ---- U+001B is masked in the line
 
 a_control_character : Shows (codes "a = " ++ (27 ∷ codes "[31m{ -b }\n"))
-    (codes "a.ftl:1:12: error: a: there is no term `-b` [unknown-term]\n1 | a = " ++ (0xEF ∷ 0xBF ∷ 0xBD ∷ codes "[31m{ -b }\n  |             ^\n"))
+    (codes "a.ftl:1:12: error: a: there is no term `-b` [unknown-term]\n1 | a = " ++ (0xEF ∷ 0xBF ∷ 0xBD ∷ (codes "[31m{ -b }\n  |             ^\n"
+    ++ (codes "a.ftl:1:5: warning: a: U+001B is a control character [control-character]\n1 | a = " ++ (0xEF ∷ 0xBF ∷ 0xBD ∷ codes "[31m{ -b }\n  |     ^\n")))))
 unfolding computing_findings file width Shows
 a_control_character = refl
 

@@ -18,7 +18,7 @@ use Rattle.fluent_meaning.specs.Substitution.{message_target, there}
 use Rattle.fluent_meaning.proofs.Stays.{first_stays, find-++}
 use Rattle.lint_findings.specs.Tiles.{Tile, entry_tile, junk_tile, tiles}
 use Rattle.lint_findings.specs.Flaws.{catalog_ids}
-use Rattle.lint_findings.specs.Comparison.{Difference, missing_message, obsolete_message, missing_value, obsolete_value, missing_attribute, obsolete_attribute, unknown_variable, unused_variable, untranslated, differences, differences_between, variables_of, as_message}
+use Rattle.lint_findings.specs.Comparison.{Difference, missing_message, obsolete_message, missing_value, obsolete_value, missing_attribute, obsolete_attribute, unknown_variable, missing_variable, unused_variable, untranslated, differences, differences_between, variables_of, as_message}
 use Rattle.lint_findings.specs.Finding.{Finding}
 use Rattle.lint_findings.specs.Files.{File}
 use Rattle.lint_findings.specs.DuplicateIds.{Declaration, first_declaration, duplicate_findings}
@@ -54,6 +54,7 @@ not_missing id obsolete_message h = λ k. k
 not_missing id obsolete_value h = λ k. k
 not_missing id (obsolete_attribute a) h = λ k. k
 not_missing id (unknown_variable x) h = λ k. k
+not_missing id (missing_variable x) h = λ k. k
 not_missing id (unused_variable x) h = λ k. k
 not_missing id untranslated h = λ k. k
 

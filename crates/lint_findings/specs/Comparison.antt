@@ -1,6 +1,6 @@
 -- How a catalog differs from its reference, the catalog that it translates.
 use Rattle.std.specs.Prelude.{ℕ, zero, suc, Bool, true, false, ◌&&◌, not, if◌then◌else◌, List, [], ◌∷◌, ◌++◌, length, map, filter, Option, Some, None, is_some}
-use Rattle.std.specs.List.{flat_map}
+use Rattle.std.specs.List.{flat_map, list_any}
 use Rattle.std.specs.Option.{option_to_list}
 use Rattle.fluent_grammar.specs.Words.{Text, is_among}
 use Rattle.fluent_grammar.specs.Tree as t
@@ -9,6 +9,7 @@ use Rattle.fluent_meaning.specs.Ids.{Ids, Meaning, number_function, function, me
 use Rattle.fluent_meaning.specs.Same.{same_elements}
 use Rattle.fluent_value.specs.Matching.{same_option}
 use Rattle.lint_findings.specs.References.{elements_references}
+use Rattle.lint_findings.specs.Shown.{elements_show}
 
 -- how a message differs from that of the reference with the same id
 pub data Difference : Type 0 where
@@ -18,8 +19,10 @@ pub data Difference : Type 0 where
   obsolete_value : Difference
   missing_attribute : Text → Difference
   obsolete_attribute : Text → Difference
-  -- a variable that the message of the reference isn't shown with, and one that only that message is
+  -- a variable that the message of the reference isn't shown with, one that only that message shows, and one that only
+  -- that message is shown with
   unknown_variable : Text → Difference
+  missing_variable : Text → Difference
   unused_variable : Text → Difference
   -- equal values and attributes
   untranslated : Difference
@@ -87,15 +90,32 @@ same_attributes _ _ = false
 abbrev pub same_message : t.Message → t.Message → Bool
 same_message m o = same_option same_elements m.value o.value && same_attributes m.attributes o.attributes
 
+-- whether a text of a message shows a variable
+abbrev pub message_shows : t.Message → Text → Bool
+message_shows o x = list_any (elements_show x) (message_patterns o)
+
+-- Of a variable of the message o of the reference that the catalog's isn't shown with. If that one has an unknown variable,
+-- it may be the one that is meant.
+abbrev pub lost_variable : Bool → t.Message → Text → Difference
+lost_variable has_unknown o x = if not has_unknown && message_shows o x then missing_variable x else unused_variable x
+
+-- whether one of these isn't among the others
+abbrev pub has_new : List Text → List Text → Bool
+has_new xs ys = list_any (λ x. not (is_among x ys)) xs
+
+-- of the variables of a message, compared with those of the message o of the reference
+abbrev pub variable_differences : t.Message → List Text → List Text → List Difference
+variable_differences o xs ys =
+    map unknown_variable (without xs ys) ++ map (lost_variable (has_new xs ys) o) (without ys xs)
+
 -- a message m of a catalog with the message o of the reference
 abbrev pub message_differences : {F : Type 0} → Ids F → Ids F → Text → t.Message → t.Message → List Difference
 message_differences ids reference id m o =
     value_difference m.value o.value
     ++ (map missing_attribute (without (attribute_names o) (attribute_names m))
     ++ (map obsolete_attribute (without (attribute_names m) (attribute_names o))
-    ++ (map unknown_variable (without (variables_of ids id) (variables_of reference id))
-    ++ (map unused_variable (without (variables_of reference id) (variables_of ids id))
-    ++ (if same_message m o then untranslated ∷ [] else [])))))
+    ++ (variable_differences o (variables_of ids id) (variables_of reference id)
+    ++ (if same_message m o then untranslated ∷ [] else []))))
 
 -- what an id stands for, if it is a message
 abbrev pub as_message : {F : Type 0} → Option (Meaning F) → Option t.Message

@@ -8,7 +8,7 @@ use Rattle.fluent_grammar.specs.Tree as t
 use Rattle.fluent_meaning.specs.Ids.{Ids, find}
 use Rattle.lint_findings.specs.SyntaxErrors.{in_backticks}
 use Rattle.lint_findings.specs.Tiles.{Tile, entry_tile}
-use Rattle.lint_findings.specs.Comparison.{Difference, missing_message, obsolete_message, missing_value, obsolete_value, missing_attribute, obsolete_attribute, unknown_variable, unused_variable, untranslated, differences, variables_of, as_message}
+use Rattle.lint_findings.specs.Comparison.{Difference, missing_message, obsolete_message, missing_value, obsolete_value, missing_attribute, obsolete_attribute, unknown_variable, missing_variable, unused_variable, untranslated, differences, variables_of, as_message}
 use Rattle.lint_findings.specs.NearNames.{nearest_hint}
 use Rattle.lint_findings.specs.Nodes.{Node, expression}
 use Rattle.lint_findings.specs.Occurrences.{Occurrence, occurrences, PatternPlace, entry_places}
@@ -27,6 +27,8 @@ difference_words (obsolete_attribute a) =
     remark warning (codes "obsolete-attribute") (codes "the reference has no attribute " ++ in_backticks (dot ∷ a))
 difference_words (unknown_variable x) =
     remark error (codes "unknown-variable") (codes "the reference has no variable " ++ in_backticks (dollar ∷ x))
+difference_words (missing_variable x) =
+    remark warning (codes "missing-variable") (codes "the reference shows " ++ in_backticks (dollar ∷ x))
 difference_words (unused_variable x) =
     remark note (codes "unused-variable") (codes "the variable `$" ++ (x ++ codes "` of the reference isn't used"))
 difference_words untranslated = remark note (codes "untranslated") (codes "the text is the same as in the reference")

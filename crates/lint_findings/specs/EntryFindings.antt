@@ -1,8 +1,9 @@
 -- The findings of an entry by itself, in a catalog.
-use Rattle.std.specs.Prelude.{ℕ, ◌-◌, if◌then◌else◌, List, [], ◌∷◌, ◌++◌, length, map, drop, Option, Some, None, is_some, codes}
+use Rattle.std.specs.Prelude.{ℕ, ◌-◌, if◌then◌else◌, List, [], ◌∷◌, ◌++◌, length, map, drop, take, Option, Some, None, is_some, codes}
 use Rattle.std.specs.Option.{option_to_list}
 use Rattle.std.specs.List.{list_any}
 use Rattle.fluent_grammar.specs.Words.{Text, is_among}
+use Rattle.fluent_grammar.specs.Refusal.{Reading, got, refused}
 use Rattle.fluent_grammar.specs.Tree as t
 use Rattle.fluent_grammar.specs.Tree.{Elements}
 use Rattle.fluent_number.specs.declared.plural.PluralCategory.{PluralCategory}
@@ -16,10 +17,12 @@ use Rattle.lint_findings.specs.SyntaxErrors.{in_backticks}
 use Rattle.lint_findings.specs.References.{elements_references, reference_error}
 use Rattle.lint_findings.specs.Flaws.{Flaw, unresolved, duplicate_key, default_flaws, entry_patterns, Owner}
 use Rattle.lint_findings.specs.Nodes.{Node, expression, select, repeated_key, elements_nodes}
-use Rattle.lint_findings.specs.Occurrences.{Occurrence, occurrences, PatternPlace, entry_places}
+use Rattle.lint_findings.specs.Occurrences.{Occurrence, occurrences, pattern_read, PatternPlace, entry_places}
 use Rattle.lint_findings.specs.MissingCategories.{missing_categories}
 use Rattle.lint_findings.specs.Escapes.{invalid_escapes, named_escapes}
 use Rattle.lint_findings.specs.Misuses.{Misuse, call_misuses, misuse_remark}
+use Rattle.lint_findings.specs.Facts.{node_facts, fact_remark}
+use Rattle.lint_findings.specs.Letters.{letters}
 use Rattle.lint_findings.specs.Finding.{warning, Finding, Remark, remark, finding_at}
 use Rattle.lint_findings.specs.FlawHints.{never_ends, endless_hint, flaw_hint}
 use Rattle.lint_findings.specs.FlawWords.{flaw_words}
@@ -81,15 +84,16 @@ taken_remark =
     remark warning (codes "duplicate-attribute") (codes "an earlier attribute has this name, so this one is never shown")
 
 -- what is said of a node beside its flaws
-abbrev pub node_doubts : Option LanguagePlurals → Node → List Remark
-node_doubts plurals node =
+abbrev pub node_doubts : {F : Type 0} → Ids F → Option LanguagePlurals → Node → List Remark
+node_doubts ids plurals node =
     map category_remark (node_categories plurals node)
-    ++ (map escape_remark (node_escapes node) ++ map misuse_remark (node_misuses node))
+    ++ (map escape_remark (node_escapes node)
+    ++ (map misuse_remark (node_misuses node) ++ map fact_remark (node_facts ids plurals node)))
 
 module _ {F : Type 0} (ids reference : Ids F) where
   -- of a flaw
   abbrev pub flaw_remark : Flaw → Remark
-  flaw_remark flaw = record (flaw_words flaw) { hint = flaw_hint ids reference flaw }
+  flaw_remark flaw = record (flaw_words flaw) { hint = flaw_hint ids reference flaw; inside = 0 }
 
   -- of a pattern whose references never end
   abbrev pub endless_remark : Elements → Remark
@@ -97,7 +101,16 @@ module _ {F : Type 0} (ids reference : Ids F) where
 
   -- all that is said of a node
   abbrev pub node_remarks : Option LanguagePlurals → Node → List Remark
-  node_remarks plurals node = map flaw_remark (node_flaws ids node) ++ node_doubts plurals node
+  node_remarks plurals node = map flaw_remark (node_flaws ids node) ++ node_doubts ids plurals node
+
+-- what stands before what follows a pattern
+abbrev pub read_text : Text → Reading Elements → Text
+read_text s (got es rest) = take (length s - length rest) s
+read_text s (refused fault) = []
+
+-- the text of the pattern at the front of a text, as the source has it
+abbrev pub pattern_text : Text → Text
+pattern_text s = read_text s (pattern_read s)
 
 -- ---- findings of an entry of this source
 
@@ -105,9 +118,9 @@ module _ {F : Type 0} (ids reference : Ids F) where
 abbrev pub offset_of : Text → Text → ℕ
 offset_of source s = length source - length s
 
--- the finding of a remark on the owner of a pattern, at an end of the source
+-- the finding of a remark on the owner of a pattern, inside of an end of the source
 abbrev pub finding_in : Text → Text → Text → Remark → Finding
-finding_in source owner at r = finding_at (offset_of source at) owner r
+finding_in source owner at r = finding_at (offset_of source (drop r.inside at)) owner r
 
 module _ {F : Type 0} (ids reference : Ids F) (plurals : Option LanguagePlurals) (source : Text) where
   -- of a node of a pattern, at its place
@@ -122,11 +135,16 @@ module _ {F : Type 0} (ids reference : Ids F) (plurals : Option LanguagePlurals)
   nodes_findings owner at (node ∷ nodes) (o ∷ os) =
       node_findings owner o.at node ++ nodes_findings owner at nodes os
 
-  -- of a pattern at its place: whether its references end, and then its nodes
+  -- of the characters of a pattern, as the source has it
+  abbrev pub letters_findings : Text → Text → List Finding
+  letters_findings owner at = map (finding_in source owner at) (letters (pattern_text at))
+
+  -- of a pattern at its place: whether its references end, its nodes, and its characters
   abbrev pub pattern_findings : Text → PatternPlace → Elements → List Finding
   pattern_findings owner place es =
       (if never_ends ids es then finding_in source owner place.name_at (endless_remark ids reference es) ∷ [] else [])
-      ++ nodes_findings owner place.pattern_at (elements_nodes es) (occurrences place.pattern_at)
+      ++ (nodes_findings owner place.pattern_at (elements_nodes es) (occurrences place.pattern_at)
+      ++ letters_findings owner place.pattern_at)
 
   -- whether the name of an attribute, if it is one, is that of an earlier one
   abbrev pub attribute_findings : Text → List Text → PatternPlace → Option Text → List Finding

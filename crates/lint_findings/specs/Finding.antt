@@ -19,16 +19,18 @@ pub record Finding : Type 0 where
   pub text : Text
   pub hint : Option Text
 
--- What a finding says, without its place: the name of its kind, how bad it is, what is wrong, and what may be the cause.
+-- What a finding says, without its place: the name of its kind, how bad it is, what is wrong, what may be the cause, and
+-- how many bytes stand before it in what it is about.
 pub record Remark : Type 0 where
   pub code : Text
   pub severity : Severity
   pub text : Text
   pub hint : Option Text
+  pub inside : ℕ
 
--- a remark without a hint
+-- a remark without a hint, on all of what it is about
 abbrev pub remark : Severity → Text → Text → Remark
-remark severity code text = record { code = code; severity = severity; text = text; hint = None }
+remark severity code text = record { code = code; severity = severity; text = text; hint = None; inside = 0 }
 
 -- the finding of a remark on this entry or attribute, at this offset
 abbrev pub finding_at : ℕ → Text → Remark → Finding

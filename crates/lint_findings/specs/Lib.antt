@@ -5,6 +5,7 @@ pub mod Hints
 pub mod References
 pub mod Endless
 pub mod Flaws
+pub mod Shown
 pub mod Comparison
 pub mod Nodes
 pub mod Occurrences
@@ -16,6 +17,11 @@ pub mod Finding
 pub mod FlawWords
 pub mod NearNames
 pub mod Misuses
+pub mod Letters
+pub mod Quoted
+pub mod QuotedLaws
+pub mod TermUses
+pub mod Facts
 pub mod FlawHints
 pub mod SyntaxFindings
 pub mod EntryFindings
@@ -35,4 +41,5 @@ pub mod Summary
 pub mod Output
 pub mod PlaceLaws
 pub mod FindingLaws
+pub mod FactLaws
 pub mod ReportLaws

@@ -1,14 +1,16 @@
 -- The plural categories that a select lacks.
-use Rattle.std.specs.Prelude.{ℕ, pos, Bool, false, not, ◌&&◌, ◌||◌, if◌then◌else◌, List, [], ◌∷◌, filter, codes}
+use Rattle.std.specs.Prelude.{ℕ, pos, Bool, false, not, ◌&&◌, ◌||◌, if◌then◌else◌, List, [], ◌∷◌, filter, Option, Some, None, is_some, codes}
 use Rattle.std.specs.List.{list_any, range_with_len}
 use Rattle.std.specs.Str.{bytes_eq}
 use Rattle.fluent_grammar.specs.Escapes.{unescaped}
+use Rattle.fluent_grammar.specs.Words.{Text}
 use Rattle.fluent_grammar.specs.Tree as t
 use Rattle.fluent_grammar.specs.Tree.{Inline, Nameds, Variants, VariantKey}
-use Rattle.fluent_number.specs.Number.{number_from_integer}
+use Rattle.fluent_number.specs.Number.{Number, number_from_integer}
+use Rattle.fluent_number.specs.Reading.{read_number}
 use Rattle.fluent_number.specs.Operands.{operands_of}
 use Rattle.fluent_number.specs.declared.plural.PluralCategory.{PluralCategory}
-use Rattle.fluent_number.specs.declared.plural.PluralCategory.TheVariants.{ZERO, ONE, TWO, FEW, MANY}
+use Rattle.fluent_number.specs.declared.plural.PluralCategory.TheVariants.{ZERO, ONE, TWO, FEW, MANY, OTHER}
 use Rattle.fluent_number.specs.declared.plural.PluralRuleType.{PluralRuleType}
 use Rattle.fluent_number.specs.declared.plural.PluralRuleType.TheVariants.{CARDINAL, ORDINAL}
 use Rattle.fluent_value.specs.Matching.{category_text}
@@ -34,11 +36,37 @@ whole_category plurals rule n = plurals_by plurals rule (operands_of (number_fro
 unfoldable pub is_common : LanguagePlurals → PluralRuleType → PluralCategory → Bool
 is_common plurals rule c = list_any (λ n. same_category (whole_category plurals rule n) c) (range_with_len 0 1000)
 
+-- the category of the number that a text is
+abbrev pub is_category_of : LanguagePlurals → PluralRuleType → PluralCategory → Option Number → Bool
+is_category_of plurals rule c None = false
+is_category_of plurals rule c (Some number) = same_category (plurals_by plurals rule (operands_of number)) c
+
+-- Whether a language has a category: some whole number below 1,000 has it, or a million, or one and a half.
+abbrev pub is_taken : LanguagePlurals → PluralRuleType → PluralCategory → Bool
+is_taken plurals rule c =
+    is_common plurals rule c
+    || (is_category_of plurals rule c (read_number (codes "1000000"))
+    || is_category_of plurals rule c (read_number (codes "1.5")))
+
 -- ---- what a select has
 
 abbrev pub variant_keys : Variants → List VariantKey
 variant_keys t.no_variants = []
 variant_keys (t.variant k es d vs) = k ∷ variant_keys vs
+
+-- the category that a text names
+abbrev pub category_named : Text → Option PluralCategory
+category_named s =
+    if bytes_eq s (codes "zero") then Some ZERO
+    else if bytes_eq s (codes "one") then Some ONE
+    else if bytes_eq s (codes "two") then Some TWO
+    else if bytes_eq s (codes "few") then Some FEW
+    else if bytes_eq s (codes "many") then Some MANY
+    else if bytes_eq s (codes "other") then Some OTHER
+    else None
+
+abbrev pub is_category_name : Text → Bool
+is_category_name s = is_some (category_named s)
 
 abbrev pub is_key_of : PluralCategory → VariantKey → Bool
 is_key_of c (t.identifier_key s) = bytes_eq (category_text c) s

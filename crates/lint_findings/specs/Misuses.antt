@@ -1,5 +1,5 @@
 -- Named arguments that a function of the library makes nothing of, or not what was meant: by the row of the function.
-use Rattle.std.specs.Prelude.{Bool, if◌then◌else◌, List, [], ◌++◌, Option, Some, None, codes}
+use Rattle.std.specs.Prelude.{if◌then◌else◌, List, [], ◌++◌, Option, Some, None, codes}
 use Rattle.std.specs.Option.{option_to_list}
 use Rattle.fluent_grammar.specs.Escapes.{unescaped}
 use Rattle.fluent_grammar.specs.Words.{Text, is_among}

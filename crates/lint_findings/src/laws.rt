@@ -1,7 +1,9 @@
 //! Laws of findings: each function only carries a law, as its contract.
 
+ghost use Rattle.lint_findings.specs.FactLaws.{FactsAreTrue, MissingVariablesAreShown};
 ghost use Rattle.lint_findings.specs.FindingLaws.{HasErrors, HasLostVariants, HasReferences, OfCatalogs, OfTranslations};
 ghost use Rattle.lint_findings.specs.PlaceLaws.{OccurrencesAreRead, OccurrencesAreTheNodes, PatternsHavePlaces, PositionsDetermineOffsets, TilesAreTheList, TilesHaveTheErrors};
+ghost use Rattle.lint_findings.specs.QuotedLaws.{QuotedAreSpelled};
 ghost use Rattle.lint_findings.specs.ReportLaws.{CatalogsOverrideNothing, CleanCatalogsAreFlawless, CleanTranslationsAreFlawless, FlawlessCatalogsAnswer, NothingMissingAnswersAll, TranslationsAnswerAll, TranslationsOverrideNothing};
 
 use fluent_value::FluentType;
@@ -36,6 +38,25 @@ pub fn occurrences_are_the_nodes()
 /// pattern is read there.
 pub fn patterns_have_places()
     ensures { PatternsHavePlaces }
+{}
+
+/// What is found in a string literal as a placeable is one by the grammar, where it stands: of a
+/// variable, or of a term without attribute and arguments.
+pub fn quoted_placeables_are_spelled()
+    ensures { QuotedAreSpelled }
+{}
+
+/// What is said of a node beside its errors is so: a literal has the placeable, a term has no such
+/// variable in any of its texts, no select on the variable has a variant with this key, and no
+/// whole number below 1,000 is of the category.
+pub fn facts_are_true<F>()
+    ensures { FactsAreTrue F }
+{}
+
+/// The message of the reference shows each variable that is reported as missing, in some variant
+/// of a text, and the message of the catalog is shown with no variable of this name.
+pub fn missing_variables_are_shown<F>()
+    ensures { MissingVariablesAreShown F }
 {}
 
 /// For each finding with one of the codes `unknown-message`, `unknown-term`, `unknown-attribute`,

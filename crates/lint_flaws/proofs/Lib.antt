@@ -5,3 +5,7 @@ pub mod NearFound
 pub mod Slips
 pub mod Said
 pub mod Arguments
+pub mod FactSteps
+pub mod Braces
+pub mod LetterSteps
+pub mod NodesCounted

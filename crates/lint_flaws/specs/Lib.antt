@@ -1,6 +1,8 @@
 pub mod BuiltinView
 pub mod FlawView
 pub mod Said
+pub mod QuotedView
+pub mod FactsBy
 pub mod Common
 pub mod MissingAmong
 pub mod Escape

@@ -1,5 +1,5 @@
 -- What is said of a node, as code has it.
-use Rattle.std.specs.Prelude.{◌≡◌, List, ◌++◌, map, Option, option_map, String, string_bytes, Vec}
+use Rattle.std.specs.Prelude.{◌≡◌, ℕ, List, ◌++◌, map, Option, option_map, String, string_bytes, Vec}
 use Rattle.std.specs.Global.{Global}
 use Rattle.std.specs.Option.{option_to_list}
 use Rattle.fluent_grammar.specs.Tree.{Inline, Nameds}
@@ -10,10 +10,12 @@ use Rattle.fluent_meaning.specs.Ids.{Ids, find}
 use Rattle.fluent_plurals.specs.declared.plurals.LanguagePlurals.{LanguagePlurals}
 use Rattle.lint_findings.specs.EntryFindings.{category_remark, flaw_remark, node_categories, node_flaws, node_remarks}
 use Rattle.lint_findings.specs.Misuses.{Misuse, argument_misuse, misuse_remark, misuses_of, overruled_by, overruled_misuses}
+use Rattle.lint_findings.specs.Facts.{Fact, fact_remark}
 use Rattle.lint_findings.specs.Finding as f
 use Rattle.lint_findings.specs.FlawHints.{flaw_hint, message_hint}
 use Rattle.lint_findings.specs.FlawWords.{attribute_words}
 use Rattle.lint_findings.specs.Flaws.{Flaw}
+use Rattle.lint_findings.specs.Letters.{placed}
 use Rattle.lint_findings.specs.Nodes.{Node}
 use Rattle.lint_finding.specs.View.{remark_view}
 use Rattle.lint_flaws.specs.BuiltinView.{builtin_view}
@@ -36,6 +38,10 @@ IsSaid said found = option_map remark_view found ≡ said
 abbrev pub AddsRemarks : Vec Remark Global → Vec Remark Global → List f.Remark → Type 0
 AddsRemarks old new added = map remark_view new.items ≡ map remark_view old.items ++ added
 
+-- this remark, if there is one, is added at its place
+abbrev pub AddsPlaced : ℕ → Option f.Remark → Vec Remark Global → Vec Remark Global → Type 0
+AddsPlaced place said old new = AddsRemarks old new (placed place said)
+
 -- the remark on this misuse, if there is one
 abbrev pub IsOnMisuse : Option Misuse → Option Remark → Type 0
 IsOnMisuse misuse found = IsSaid (option_map misuse_remark misuse) found
@@ -47,6 +53,10 @@ AddsMisuses misuses old new = AddsRemarks old new (map misuse_remark misuses)
 -- that on this misuse, if there is one
 abbrev pub AddsMisuse : Option Misuse → Vec Remark Global → Vec Remark Global → Type 0
 AddsMisuse misuse old new = AddsMisuses (option_to_list misuse) old new
+
+-- those on facts are added
+abbrev pub AddsFacts : List Fact → Vec Remark Global → Vec Remark Global → Type 0
+AddsFacts facts old new = AddsRemarks old new (map fact_remark facts)
 
 -- the remark on an argument of this name in a call of the function of this row, if there is one
 abbrev pub IsOnArgument : Builtin → Text → Inline → Option Remark → Type 0

@@ -58,7 +58,7 @@ impl<'s> Flaw<'_, 's> {
     {
         let hint = self.hint(alloc, ids, reference)?;
         let words = self.words(alloc)?;
-        Ok(words.with_hint(hint))
+        Ok(words.with_hint(hint).within(0))
     }
 
     /// The remark without its hint.

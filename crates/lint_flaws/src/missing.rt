@@ -19,7 +19,7 @@ use lint_nodes::Node;
 use std::alloc::{AllocError, Global};
 
 /// The categories that can be missing. `other` never is, since each select has a default variant.
-const CATEGORIES: [PluralCategory; 5] = [
+pub const CATEGORIES: [PluralCategory; 5] = [
     PluralCategory::ZERO,
     PluralCategory::ONE,
     PluralCategory::TWO,
@@ -100,7 +100,7 @@ fn lacking(
 }
 
 /// Whether one of these variants is for one of these categories.
-fn has_any(variants: &[Variant<&str>], categories: &[PluralCategory]) -> bool
+pub fn has_any(variants: &[Variant<&str>], categories: &[PluralCategory]) -> bool
     ensures { result ≡ list_any (m.has_category (m.variant_keys (variants_of variants.now)))
         categories.now }
 {

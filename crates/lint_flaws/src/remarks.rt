@@ -10,6 +10,7 @@ ghost use Rattle.lint_nodes.specs.NodeView.{node_view};
 
 use crate::common::CommonCategories;
 use crate::escape_nodes::node_escapes;
+use crate::facts::push_facts;
 use crate::missing::node_categories;
 use crate::misuses::push_misuses;
 use crate::nodes::node_flaw;
@@ -22,7 +23,8 @@ use std::alloc::{AllocError, Global};
 
 /// All that is said of a node, in a catalog with these ids, whose reference has those: its flaw,
 /// the plural categories that it lacks by the rules of a language, in which these are common, its
-/// invalid escapes, and the named arguments that a function of the library makes nothing of.
+/// invalid escapes, the named arguments that a function of the library makes nothing of, and its
+/// facts.
 ///
 /// # Errors
 /// [`AllocError`] if memory runs out; nothing is kept.
@@ -42,6 +44,7 @@ pub fn node_remarks<'s>(
     push_categories(alloc, plurals, common, node, &mut found)?;
     push_escapes(alloc, node, &mut found)?;
     push_misuses(alloc, node, &mut found)?;
+    push_facts(alloc, ids, plurals, node, &mut found)?;
     Ok(found)
 }
 

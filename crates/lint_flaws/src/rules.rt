@@ -3,6 +3,7 @@
 
 ghost use Rattle.std.specs.Prelude.{◌≡◌, ◌&&◌, IfOk};
 ghost use Rattle.std.specs.List.{list_any, range_with_len};
+ghost use Rattle.fluent_number.specs.Reading.{read_number};
 ghost use Rattle.fluent_ast.specs.Borrowed.{inline_of, named_of};
 ghost use Rattle.lint_findings.specs.MissingCategories as m;
 ghost use Rattle.lint_findings.specs.MissingCategories.{same_category, whole_category};
@@ -68,6 +69,34 @@ fn has_category(
     let number = FluentNumber::from(n);
     let found = plurals.category(rule, &PluralOperands::from(&number));
     category_text(found) == category_text(category)
+}
+
+/// Whether a language has a category: some whole number below 1,000 has it, or a million, or one
+/// and a half.
+pub fn is_taken(plurals: &LanguagePlurals, rule: PluralRuleType, category: PluralCategory) -> bool
+    ensures { result ≡ m.is_taken plurals.now rule category }
+{
+    is_common(plurals, rule, category)
+        || (is_category_of(plurals, rule, category, "1000000")
+            || is_category_of(plurals, rule, category, "1.5"))
+}
+
+/// Whether the number that a text is has the category.
+fn is_category_of(
+    plurals: &LanguagePlurals,
+    rule: PluralRuleType,
+    category: PluralCategory,
+    text: &str,
+) -> bool
+    ensures { result ≡ m.is_category_of plurals.now rule category (read_number text.now) }
+{
+    match text.parse::<FluentNumber>() {
+        Ok(number) => {
+            let found = plurals.category(rule, &PluralOperands::from(&number));
+            category_text(found) == category_text(category)
+        }
+        Err(_) => false,
+    }
 }
 
 /// The rules that a select with this selector chooses by: those for ordinals if it is a call of a

@@ -26,7 +26,14 @@ _SEVERITIES = {"error": _ERROR, "warning": _WARNING, "note": 3}
 _UNNECESSARY = 1
 
 # What a finding of these codes says may be untrue if a file of the catalog can't be read, or one of the reference.
-_OF_CATALOG = {"unknown-message", "unknown-term", "unused-term", "unused-variable", "missing-message"}
+_OF_CATALOG = {
+    "unknown-message",
+    "unknown-term",
+    "unused-term",
+    "missing-variable",
+    "unused-variable",
+    "missing-message",
+}
 _OF_REFERENCE = {"unknown-variable", "unknown-function", "obsolete-message"}
 
 # Findings of these codes come from a comparison with a message of the reference.
@@ -36,6 +43,7 @@ _COMPARED = {
     "obsolete-value",
     "obsolete-attribute",
     "unknown-variable",
+    "missing-variable",
     "unused-variable",
     "untranslated",
 }

@@ -1,0 +1,20 @@
+//! How remarks are added to others.
+#![tactic(auto)]
+
+ghost use Rattle.std.specs.Prelude.{◌∷◌, [], OnOk};
+ghost use Rattle.lint_finding.specs.View.{remark_view};
+ghost use Rattle.lint_flaws.specs.Said.{AddsRemarks};
+
+use lint_finding::Remark;
+use std::alloc::AllocError;
+
+/// Adds a remark.
+///
+/// # Errors
+/// [`AllocError`] if memory runs out; `found` is unchanged then.
+pub fn push_remark(remark: Remark, found: &mut Vec<Remark>) -> Result<(), AllocError>
+    ensures { OnOk result (AddsRemarks found.old found.new (remark_view remark ∷ [])) }
+{
+    found.push(remark)?;
+    Ok(())
+}
