@@ -38,7 +38,7 @@ use Rattle.fluent_value.specs.declared.custom.NoCustom.{NoCustom}
 use Rattle.fluent_value.specs.declared.value.FluentValue.{FluentValue}
 use Rattle.fluent_value.specs.declared.scope.ValueScope.{Ghosts as Scope}
 use Rattle.fluent_calls.specs.CallValues.{plain_all}
-use Rattle.fluent_calls.specs.Functions.{Table}
+use Rattle.fluent_calls.specs.Functions.{IsUnanswered, Table}
 use Rattle.fluent_calls.specs.GatheringView.{arguments_in, left_by}
 use Rattle.fluent_calls.specs.Gathering.{AreGathered, Gathers, a_text, all_known, all_lacking, ended, is_plain, is_plain_expression, lacking, literals, no_more, plain, resolved, too_many, unanswered, unanswered_if, with_value}
 
@@ -179,7 +179,7 @@ module _ (env : Environment (Unit {0}) ℕ) (args : List (Text × Value (Unit {0
       (es : Elements) (rest : List Text) → Gathers env args table whole es next rest → Gathers env args table whole (t.placeable e es) now rest
   goes-resolved other opened same es rest h = resolved (sym opened) other (subst (λ c. Gathers env args table whole es c rest) same h)
 
-  pub ends-at : {e : Expression} {now : Budget} {call : Text} → is_plain_expression e ≡ false → true ≡ (opens now).value → argument call table ≡ None →
+  pub ends-at : {e : Expression} {now : Budget} {call : Text} → is_plain_expression e ≡ false → true ≡ (opens now).value → IsUnanswered table call →
       (es : Elements) → Gathers env args table whole (t.placeable e es) now (call ∷ [])
   ends-at other opened is es = ended (sym opened) other is
 

@@ -1,5 +1,5 @@
 -- A call of a function as a text: an array of JSON with the function's name, the positional arguments, and an object of the named ones.
-use Rattle.std.specs.Prelude.{List, [], ◌∷◌, map, codes}
+use Rattle.std.specs.Prelude.{◌≡◌, List, [], ◌∷◌, map, codes}
 use Rattle.serde_json.specs.Data.{Data, null, string, array, object, no_items, item, Members, no_members, member, put}
 use Rattle.serde_json.specs.View.{items_of}
 use Rattle.serde_json.specs.Written.{compact_text}
@@ -30,3 +30,10 @@ call_data name values pairs = three (string name) (array (items_of (map value_da
 
 abbrev pub call_text : Text → List (Value (Unit {0})) → List (Text × Value (Unit {0})) → Text
 call_text name values pairs = compact_text (call_data name values pairs)
+
+-- a text is that of a call
+pub record IsCallText (call : Text) : Type 0 where
+  pub name : Text
+  pub values : List (Value (Unit {0}))
+  pub pairs : List (Text × Value (Unit {0}))
+  pub is : call ≡ call_text name values pairs

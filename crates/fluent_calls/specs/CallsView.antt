@@ -6,6 +6,7 @@ use Rattle.fluent_meaning.specs.Ids.{Ids}
 use Rattle.fluent_resource.specs.declared.resource.FluentResource.{FluentResource}
 use Rattle.fluent_run.specs.DeskView.{Gives, IsMadeOf, arguments_view, ids_added}
 use Rattle.fluent_run.specs.declared.settings.Settings.{Settings}
+use Rattle.fluent_text.specs.declared.stack.StackBudget.{StackBudget}
 use Rattle.fluent_calls.specs.Functions.{Functions, answered_at, with_functions}
 use Rattle.fluent_calls.specs.declared.calls.Calls.{Calls}
 use Rattle.fluent_calls.specs.declared.desk.FunctionDesk.{FunctionDesk}
@@ -19,8 +20,8 @@ abbrev pub names_of : {M : Type 0} → FunctionDesk M → List Text
 names_of desk = map string_bytes desk.functions.now
 
 -- a desk with functions of these names is made of these
-pub record IsMadeWith {M : Type 0} (functions : List (String Global)) (read : List FluentResource) (asked : Settings) (rules : M) (made : FunctionDesk M) : Type 0 where
-  pub desk : IsMadeOf (ids_with functions asked.overriding read) read asked rules made.desk
+pub record IsMadeWith {M : Type 0} (functions : List (String Global)) (read : List FluentResource) (asked : Settings) (rules : M) (budget : StackBudget) (made : FunctionDesk M) : Type 0 where
+  pub desk : IsMadeOf (ids_with functions asked.overriding read) read asked rules budget made.desk
   pub names : names_of made ≡ map string_bytes functions
 
 -- what functions give by the answers to their calls, with `otherwise` for a call that has no answer

@@ -1,5 +1,5 @@
 -- Functions of a program, by a table of answers to their calls.
-use Rattle.std.specs.Prelude.{ℕ, suc, false, List, [], ◌∷◌, get_or, unwrap_or}
+use Rattle.std.specs.Prelude.{◌≡◌, ℕ, suc, false, None, List, [], ◌∷◌, get_or, unwrap_or}
 use Rattle.fluent_answers.specs.Sources.{Settings, formatted_in, ids_of}
 use Rattle.fluent_grammar.specs.Words.{Text}
 use Rattle.fluent_meaning.specs.Environment.{Environment}
@@ -7,7 +7,7 @@ use Rattle.fluent_meaning.specs.Ids.{Ids, Meaning, find, function, with_ids}
 use Rattle.fluent_value.specs.Args.{argument}
 use Rattle.fluent_value.specs.Matching.{Plurals}
 use Rattle.fluent_value.specs.Value.{Value, error}
-use Rattle.fluent_calls.specs.Calls.{call_text}
+use Rattle.fluent_calls.specs.Calls.{IsCallText, call_text}
 
 -- what functions give, by their names, for positional and named arguments
 abbrev pub Functions : Type 0
@@ -24,6 +24,10 @@ no_answer name values pairs = error
 -- the table's answer to a call, or what `otherwise` gives if the table has none
 abbrev pub answered : Functions → Table → Functions
 answered otherwise table name values pairs = unwrap_or (argument (call_text name values pairs) table) (otherwise name values pairs)
+
+-- the text of a call to which the table has no answer
+abbrev pub IsUnanswered : Table → Text → Type 0
+IsUnanswered table call = IsCallText call × (argument call table ≡ None)
 
 -- A function is its place among the names. This is what the one at a place gives.
 abbrev pub answered_at : Functions → List Text → Table → ℕ → List (Value (Unit {0})) → List (Text × Value (Unit {0})) → Value (Unit {0})

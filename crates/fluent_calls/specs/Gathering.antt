@@ -14,7 +14,7 @@ use Rattle.fluent_value.specs.Builtins.{number_called}
 use Rattle.fluent_value.specs.Value as v
 use Rattle.fluent_value.specs.Value.{Value, number_or_text}
 use Rattle.fluent_calls.specs.Calls.{call_text}
-use Rattle.fluent_calls.specs.Functions.{Table}
+use Rattle.fluent_calls.specs.Functions.{IsUnanswered, Table}
 
 -- ---- plain expressions
 
@@ -155,7 +155,7 @@ module _ (env : Environment (Unit {0}) ℕ) (args : List (Text × Value (Unit {0
     resolved : {e : Expression} {es : Elements} {b : Budget} {calls : List Text} → (opens b).value ≡ true → is_plain_expression e ≡ false →
         Gathers whole es (unmarked_written env whole e (outset args) (opens b).budget).budget calls → Gathers whole (t.placeable e es) b calls
     ended : {e : Expression} {es : Elements} {b : Budget} {call : Text} → (opens b).value ≡ true → is_plain_expression e ≡ false →
-        argument call table ≡ None → Gathers whole (t.placeable e es) b (call ∷ [])
+        IsUnanswered table call → Gathers whole (t.placeable e es) b (call ∷ [])
 
   -- these lines are of the calls that are gathered of a pattern
   pub record AreGathered (whole : Elements) (text : Text) : Type 0 where

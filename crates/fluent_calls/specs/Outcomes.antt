@@ -12,23 +12,22 @@ use Rattle.fluent_meaning.specs.Steps.{Done}
 use Rattle.fluent_meaning.specs.Substitution.{answer_written}
 use Rattle.fluent_run.specs.DeskView.{answer_in, arguments_view, desk_ids, environment_by}
 use Rattle.fluent_run.specs.ReplyView.{IsDone}
-use Rattle.fluent_value.specs.Args.{argument}
 use Rattle.fluent_value.specs.declared.args.FluentArgs.{FluentArgs}
 use Rattle.fluent_value.specs.declared.custom.NoCustom.{NoCustom}
 use Rattle.fluent_value.specs.declared.plurals.MemoizerKind.{Ghosts as KindGhosts}
 use Rattle.fluent_calls.specs.CallsView.{names_of}
 use Rattle.fluent_calls.specs.Gathering.{AreGathered}
-use Rattle.fluent_calls.specs.Functions.{Functions, Table, answered_at}
+use Rattle.fluent_calls.specs.Functions.{Functions, IsUnanswered, Table, answered_at}
 use Rattle.fluent_calls.specs.declared.desk.FunctionDesk.{FunctionDesk}
 use Rattle.fluent_calls.specs.declared.desk.Outcome.{Outcome}
 use Rattle.fluent_calls.specs.declared.desk.Outcome.TheVariants as outcome
 
--- a call that the table lacks
+-- a call to which the table has no answer
 abbrev pub IsMissing : Table → Outcome → Type 0
 IsMissing table (outcome.Text reply) = ⊥
-IsMissing table (outcome.Call call) = argument (string_bytes call) table ≡ None
+IsMissing table (outcome.Call call) = IsUnanswered table (string_bytes call)
 
--- what was written, or a call that the table lacks
+-- what was written, or a call to which the table has no answer
 abbrev pub ComesTo : Done Text → Table → Outcome → Type 0
 ComesTo done table (outcome.Text reply) = IsDone done reply
 ComesTo done table (outcome.Call call) = IsMissing table (outcome.Call call)

@@ -1,12 +1,12 @@
 //! Functions that are answered by the texts of their calls.
 
-ghost use Rattle.std.specs.Prelude.{◌≡◌, IfOk, None, string_bytes};
+ghost use Rattle.std.specs.Prelude.{IfOk, string_bytes};
 ghost use Rattle.fluent_run.specs.DeskView.{arguments_view};
-ghost use Rattle.fluent_value.specs.Args.{argument};
 ghost use Rattle.fluent_calls.specs.CallsView.{answers_of};
+ghost use Rattle.fluent_calls.specs.Functions.{IsUnanswered};
 
-use crate::call::call_text;
 use crate::otherwise::Otherwise;
+use crate::text::CallText;
 use fluent_run::Caller;
 use fluent_value::{FluentArgs, FluentValue, NoCustom};
 use std::alloc::{AllocError, Global};
@@ -20,7 +20,7 @@ use std::marker::PhantomData;
 pub(crate) struct Calls<'b, 't, K> {
     pub(crate) functions: &'b [String],
     pub(crate) answers: &'b FluentArgs<'t, NoCustom>,
-    pub(crate) missing: Cell<Option<String>>,
+    pub(crate) missing: Cell<Option<CallText>>,
     pub(crate) otherwise: PhantomData<K>,
 }
 
@@ -37,8 +37,8 @@ impl<'b, 't, K: Otherwise> Caller<usize> for Calls<'b, 't, K> {
         let Some(name) = self.functions.get(*place) else {
             return Err(AllocError);
         };
-        let call = call_text(alloc, name, positional, named)?;
-        match self.answers.get(&call) {
+        let call = CallText::of(alloc, name, positional, named)?;
+        match self.answers.get(call.as_str()) {
             Some(answer) => answer.into_owned(alloc),
             None => {
                 self.missing.set(Some(call));
@@ -54,11 +54,12 @@ impl<'b, 't, K: Otherwise> Calls<'b, 't, K> {
     /// # Errors
     /// [`AllocError`] if there is none.
     pub(crate) fn left(&self) -> Result<String, AllocError>
-        ensures { IfOk result (λ call. argument (string_bytes call) (arguments_view self.now.answers.now) ≡ None) }
+        ensures { IfOk result (λ call.
+            IsUnanswered (arguments_view self.now.answers.now) (string_bytes call)) }
     {
         // No contract says what a cell holds, so the answers are asked again.
         match self.missing.replace(None) {
-            Some(call) if self.answers.get(&call).is_none() => Ok(call),
+            Some(call) if self.answers.get(call.as_str()).is_none() => Ok(call.into_string()),
             _ => Err(AllocError),
         }
     }

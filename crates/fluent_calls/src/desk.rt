@@ -53,7 +53,7 @@ impl<'b, 'r, 's, M: MemoizerKind> FunctionDesk<'b, 'r, 's, M> {
         plurals: &'b M,
         stack: StackBudget,
     ) -> Result<Self, AllocError>
-        ensures { IfOk result (IsMadeWith functions.now resources.now settings plurals.now) }
+        ensures { IfOk result (IsMadeWith functions.now resources.now settings plurals.now stack) }
     {
         let ids = ids_with(alloc, resources, settings.overriding, functions)?;
         let desk = Desk::of(ids, resources, settings, plurals, stack);

@@ -14,6 +14,7 @@ mod desk;
 mod gathering;
 mod otherwise;
 mod plain;
+mod text;
 
 pub use desk::{FunctionDesk, Outcome};
 pub use otherwise::{Otherwise, Unanswered};

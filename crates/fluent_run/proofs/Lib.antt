@@ -7,3 +7,4 @@ pub mod Valued
 mod Listed
 mod OneText
 mod AskedLines
+pub mod DatesShown

@@ -27,6 +27,7 @@ use Rattle.fluent_run.specs.RunView.{no_text, settings_view}
 use Rattle.fluent_run.specs.declared.caller.Asking.{Asking}
 use Rattle.fluent_run.specs.declared.settings.Settings.{Settings}
 use Rattle.fluent_serve.specs.RequestView.{arguments_behind}
+use Rattle.fluent_text.specs.declared.stack.StackBudget.{StackBudget}
 use Rattle.fluent_value.specs.Args.{all_set, with_argument}
 use Rattle.fluent_value.specs.ArgsView.{args_view}
 use Rattle.fluent_value.specs.Matching.{Plurals}
@@ -49,11 +50,16 @@ abbrev pub desk_ids : {M F : Type 0} → Desk M F → Ids F
 desk_ids desk = plain_ids desk.ids
 
 -- what a desk is made of
-pub record IsMadeOf {M F : Type 0} (stood : Ids F) (read : List FluentResource) (asked : Settings) (rules : M) (desk : Desk M F) : Type 0 where
+pub record IsMadeOf {M F : Type 0} (stood : Ids F) (read : List FluentResource) (asked : Settings) (rules : M) (budget : StackBudget) (desk : Desk M F) : Type 0 where
   pub ids : desk_ids desk ≡ stood
   pub resources : desk.resources.now ≡ read
   pub settings : desk.settings ≡ asked
   pub plurals : desk.plurals.now ≡ rules
+  pub stack : desk.stack ≡ budget
+
+-- it answers by the ids of these resources
+abbrev pub IsMadeFrom : {M F : Type 0} → List FluentResource → Settings → M → StackBudget → Desk M F → Type 0
+IsMadeFrom read asked rules budget = IsMadeOf (ids_added asked.overriding read) read asked rules budget
 
 -- a line for each message of a desk
 abbrev pub messages_in : {M F : Type 0} → Desk M F → Text

@@ -4,3 +4,4 @@ pub mod Listed
 pub mod RunView
 pub mod DeskView
 pub mod ReplyView
+pub mod Dated

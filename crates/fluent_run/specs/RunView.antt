@@ -1,5 +1,5 @@
 -- What a run answers, by the code's own values.
-use Rattle.std.specs.Prelude.{◌≡◌, List, [], Result, IfSome, IsErrOf, OnOk, option_map}
+use Rattle.std.specs.Prelude.{◌≡◌, ℕ, List, [], Result, IfSome, IsErrOf, OnOk, option_map}
 use Rattle.std.specs.Io.KnownBytes.{Appends, IsAtEnd}
 use denote.Ref.{Bor}
 use Rattle.fluent_answers.specs.Answers.{line_answered, answers}
@@ -22,6 +22,10 @@ use Rattle.fluent_value.specs.declared.plurals.MemoizerKind.{Ghosts as KindGhost
 -- the settings, as plain data
 abbrev pub settings_view : Settings → plain.Settings
 settings_view s = record { isolating = s.isolating; overriding = s.overriding; numerals = option_map locale_view s.numerals }
+
+-- how many bytes of the machine's stack reading or an answer takes in a run at most: 6 MB
+abbrev pub program_stack : ℕ
+program_stack = 6291456
 
 -- No program's own type of values is around: there is one value of it, which is shown as nothing.
 abbrev pub no_text : Unit {0} → Text

@@ -1,6 +1,7 @@
 //! Answers a stream of request lines from sources.
 
-ghost use Rattle.fluent_run.specs.RunView.{RunsWell};
+ghost use Rattle.std.specs.Prelude.{◌≡◌};
+ghost use Rattle.fluent_run.specs.RunView.{RunsWell, program_stack};
 
 use crate::desk::Desk;
 use crate::settings::Settings;
@@ -46,35 +47,8 @@ pub fn run<M: MemoizerKind, R: Source, W: Sink>(
     ensures { RunsWell M.MemoizerKind plurals.now settings sources.now
         R.Source reader.old reader.new W.Sink writer.old writer.new result }
 {
-    run_within(
-        alloc,
-        sources,
-        settings,
-        plurals,
-        reader,
-        writer,
-        StackBudget::PROGRAM,
-    )
-}
-
-/// The same, with a budget of the machine's stack for each message and term that is read, and for
-/// each answer.
-pub(crate) fn run_within<M: MemoizerKind, R: Source, W: Sink>(
-    alloc: Global,
-    sources: &[&str],
-    settings: Settings,
-    plurals: &M,
-    reader: &mut R,
-    writer: &mut W,
-    stack: StackBudget,
-) -> Result<(), RunError>
-    ensures { RunsWell M.MemoizerKind plurals.now settings sources.now
-        R.Source reader.old reader.new W.Sink writer.old writer.new result }
-{
-    tidied_sources_keep_answers::<NoCustom, NoFunction>();
-    let resources = parse_sources(alloc, sources, stack)?;
-    let desk = Desk::new(alloc, &resources, settings, plurals, stack)?;
-    serve(alloc, &desk, reader, writer, READS)
+    let means = Means::of_program(false);
+    run_within(alloc, sources, settings, plurals, reader, writer, means)
 }
 
 /// As [`run`], for a program that exits next: what was read of the sources is never freed, and the
@@ -93,11 +67,58 @@ pub fn run_before_exit<M: MemoizerKind, R: Source, W: Sink>(
     ensures { RunsWell M.MemoizerKind plurals.now settings sources.now
         R.Source reader.old reader.new W.Sink writer.old writer.new result }
 {
+    let means = Means::of_program(true);
+    run_within(alloc, sources, settings, plurals, reader, writer, means)
+}
+
+/// What a run takes of the machine, and whether it gives it back.
+#[derive(Clone, Copy)]
+pub(crate) struct Means {
+    /// The budget of the machine's stack, for each message and term that is read, and for each
+    /// answer.
+    pub(crate) stack: StackBudget,
+    /// Whether the program exits next: then what was read is never freed.
+    pub(crate) exits: bool,
+}
+
+impl Means {
+    /// Those of a program.
+    fn of_program(exits: bool) -> Means
+        ensures stack { result.stack.bytes ≡ program_stack }
+        ensures exits { result.exits ≡ exits }
+    {
+        Means {
+            stack: StackBudget::PROGRAM,
+            exits,
+        }
+    }
+}
+
+/// As [`run`], by these means.
+pub(crate) fn run_within<M: MemoizerKind, R: Source, W: Sink>(
+    alloc: Global,
+    sources: &[&str],
+    settings: Settings,
+    plurals: &M,
+    reader: &mut R,
+    writer: &mut W,
+    means: Means,
+) -> Result<(), RunError>
+    ensures { RunsWell M.MemoizerKind plurals.now settings sources.now
+        R.Source reader.old reader.new W.Sink writer.old writer.new result }
+{
     tidied_sources_keep_answers::<NoCustom, NoFunction>();
-    let resources = parse_sources(alloc, sources, StackBudget::PROGRAM)?;
-    let desk = Desk::new(alloc, &resources, settings, plurals, StackBudget::PROGRAM)?;
+    let resources = parse_sources(alloc, sources, means.stack)?;
+    let desk = Desk::new(alloc, &resources, settings, plurals, means.stack)?;
     let outcome = serve(alloc, &desk, reader, writer, READS);
-    mem::forget(desk);
-    mem::forget(resources);
+    let_go(desk, means.exits);
+    let_go(resources, means.exits);
     outcome
+}
+
+/// Frees a value, unless the program exits next.
+fn let_go<T: Drop>(value: T, exits: bool) {
+    if exits {
+        mem::forget(value);
+    }
 }

@@ -11,6 +11,7 @@ ghost use Rattle.fluent_run.specs.RunView.{no_text};
 use crate::desk::Desk;
 use fluent_ids::FunctionRef;
 use fluent_number::{PluralCategory, PluralOperands, PluralRuleType};
+use fluent_numerals::LocaleNumerals;
 use fluent_progress::Context;
 use fluent_text::stack::StackBudget;
 use fluent_value::{
@@ -82,6 +83,35 @@ impl<'x, 'b, 'r, 's, M: MemoizerKind, F, L: Caller<F>> ValueScope<NoCustom>
         match &self.desk.settings.numerals {
             Some(numerals) => numerals.format(self.alloc, value, self.desk.plurals),
             None => Ok(None),
+        }
+    }
+
+    fn format_into(
+        &self,
+        out: &mut String,
+        value: &FluentValue<'_, NoCustom>,
+    ) -> Result<bool, AllocError> {
+        match &self.desk.settings.numerals {
+            Some(numerals) => numerals.format_into(out, self.alloc, value, self.desk.plurals),
+            None => Ok(false),
+        }
+    }
+
+    fn is_plain(&self, value: &FluentValue<'_, NoCustom>) -> bool {
+        match &self.desk.settings.numerals {
+            Some(numerals) => numerals.shows_plainly(value),
+            None => true,
+        }
+    }
+
+    fn keeps_texts(&self) -> bool {
+        true
+    }
+
+    fn plain_below(&self) -> u64 {
+        match &self.desk.settings.numerals {
+            Some(numerals) => LocaleNumerals::plain_below(numerals),
+            None => u64::MAX,
         }
     }
 

@@ -6,7 +6,7 @@ ghost use Rattle.fluent_meaning.specs.Ids.{attribute_named, find};
 ghost use Rattle.fluent_ids.specs.Found.{message_in};
 ghost use Rattle.fluent_ids.specs.MessageView.{message_of};
 ghost use Rattle.fluent_serve.specs.Frames.{none, ok};
-ghost use Rattle.fluent_run.specs.DeskView.{IsFormatted, IsMadeOf, answer_in, attributes_in, desk_ids, elements_found, ids_added, frame_asked, line_frame, messages_in, plain_ids, reply_frame, reply_to};
+ghost use Rattle.fluent_run.specs.DeskView.{IsFormatted, IsMadeFrom, IsMadeOf, answer_in, attributes_in, desk_ids, elements_found, frame_asked, line_frame, messages_in, plain_ids, reply_frame, reply_to};
 ghost use Rattle.fluent_run.specs.ReplyView.{IsDone, reply_of, reply_view};
 ghost use Rattle.fluent_serve.specs.AnswerView.{Adds};
 ghost use Rattle.fluent_serve.specs.Exchange.{IsFrontOf};
@@ -56,7 +56,7 @@ impl<'b, 'r, 's, M: MemoizerKind, F: Drop> Desk<'b, 'r, 's, M, F> {
         plurals: &'b M,
         stack: StackBudget,
     ) -> Self
-        ensures { IsMadeOf (plain_ids ids.entry) resources.now settings plurals.now result }
+        ensures { IsMadeOf (plain_ids ids.entry) resources.now settings plurals.now stack result }
     {
         Desk {
             resources,
@@ -115,7 +115,8 @@ impl<'b, 'r, 's, M: MemoizerKind, F: Drop> Desk<'b, 'r, 's, M, F> {
         arguments: &'x FluentArgs<'_, NoCustom>,
         text: String,
     ) -> Result<Reply, AllocError>
-        ensures { IfOk result (IsDone (answer_in M.MemoizerKind (L.gives caller.now) self.now arguments.now pattern.now)) }
+        ensures { IfOk result (IsDone
+            (answer_in M.MemoizerKind (L.gives caller.now) self.now arguments.now pattern.now)) }
     {
         let context = Asking {
             desk: self,
@@ -146,8 +147,7 @@ impl<'b, 'r, 's, M: MemoizerKind> Desk<'b, 'r, 's, M> {
         plurals: &'b M,
         stack: StackBudget,
     ) -> Result<Self, AllocError>
-        ensures { IfOk result (IsMadeOf (ids_added settings.overriding resources.now)
-            resources.now settings plurals.now) }
+        ensures { IfOk result (IsMadeFrom resources.now settings plurals.now stack) }
     {
         let ids = ids_of(alloc, resources, settings.overriding)?;
         Ok(Desk::of(ids, resources, settings, plurals, stack))

@@ -3,7 +3,7 @@
 ghost use Rattle.std.specs.Prelude.{◌≡◌, IfOk};
 ghost use Rattle.fluent_run.specs.RunView.{answers_in};
 
-use crate::answering::run_within;
+use crate::answering::{Means, run_within};
 use crate::settings::Settings;
 use fluent_serve::stream::{FromRead, FromWrite};
 use fluent_text::stack::StackBudget;
@@ -38,6 +38,10 @@ pub fn answers<M: MemoizerKind>(
 {
     let mut reader = FromRead::new(requests);
     let mut writer = FromWrite::new(Vec::new(alloc));
+    let means = Means {
+        stack,
+        exits: false,
+    };
     match run_within(
         alloc,
         sources,
@@ -45,7 +49,7 @@ pub fn answers<M: MemoizerKind>(
         plurals,
         &mut reader,
         &mut writer,
-        stack,
+        means,
     ) {
         Ok(()) => Ok(writer.into_inner()),
         Err(_) => Err(AllocError),

@@ -1,6 +1,6 @@
 -- Lemmas on standard input that is tidied.
-use Rattle.std.proofs.Common.{◌≡◌, ◌≢◌, ◌⊎◌, Bool, true, false, Option, Result, Ok, Err, IfErr, IfOk, OnOk, ap, append-nil, inl, inr, refl, subst}
-use Rattle.std.specs.Prelude.{IsErrOf, [], ◌++◌}
+use Rattle.std.proofs.Common.{◌≡◌, ◌≢◌, ◌⊎◌, Bool, true, false, Option, Result, Ok, Err, append-nil, inl, inr, refl, subst}
+use Rattle.std.specs.Prelude.{IsErrOf, []}
 use Rattle.std.specs.Io.KnownBytes.{Consumes, IsAtEnd}
 use Rattle.fluent_serve.proofs.Exchange.{consumes_trans}
 use Rattle.fluent_serve.specs.Text.{Text}

@@ -8,4 +8,6 @@ pub mod LintLemmas
 pub mod Refusals
 pub mod RunLemmas
 pub mod TellLemmas
+mod DatedRows
 mod NumeralRows
+pub mod DatesSet

@@ -11,3 +11,4 @@ pub mod Terminals
 pub mod FormatView
 pub mod Input
 pub mod Reported
+pub mod Dated

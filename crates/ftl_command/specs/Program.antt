@@ -1,5 +1,5 @@
 -- What the program does for its words, and how far it came before a fault.
-use Rattle.std.specs.Prelude.{◌≡◌, ℕ, Bool, List, [], ◌∷◌, ◌++◌, ⊤, false, Option, Some, None, IfSome, IsSomeAnd, option_map, Result, IfOk, OnOk, IsErrOf, string_bytes}
+use Rattle.std.specs.Prelude.{◌≡◌, if◌then◌else◌, ℕ, Bool, List, [], ◌∷◌, ◌++◌, ⊤, false, Option, Some, None, IfSome, IsSomeAnd, option_map, Result, IfOk, OnOk, IsErrOf}
 use Rattle.std.specs.List.{flat_map, list_any}
 use Rattle.std.specs.Io.KnownBytes.{Appends, IsAtEnd}
 use Rattle.fluent_value.specs.declared.function.NoFunction.{NoFunction}
@@ -24,6 +24,7 @@ use Rattle.fluent_tidy_laws.specs.Normal.{IsNormalText}
 use Rattle.fluent_json.specs.Json.{json}
 use Rattle.fluent_tidy.specs.Sources.{holds_return}
 use Rattle.fluent_tidy.specs.Trees.{IsImported}
+use Rattle.ftl_command.specs.Dated.{dated_for, has_date, settings_for}
 use Rattle.ftl_command.specs.FormatView.{IsWrittenAs}
 use Rattle.ftl_command.specs.Shown.{error_line, reply_asked}
 use Rattle.ftl_command.specs.declared.message.Formatted.{Formatted}
@@ -34,7 +35,7 @@ use Rattle.ftl_command.specs.Files.{OnFile, OnTexts}
 use Rattle.ftl_command.specs.Faults.{end_status}
 use Rattle.ftl_files.specs.Tidying.{FileEnd}
 use Rattle.ftl_command.specs.Input.{OnBytes, OnInput, said_of, written_of}
-use Rattle.ftl_command.specs.Plurals.{Rules, category_in, language_asked, plurals_asked, rules_asked}
+use Rattle.ftl_command.specs.Plurals.{Rules, category_in, plurals_asked, rules_asked}
 use Rattle.ftl_command.specs.declared.ended.Ended.{Ended}
 use Rattle.ftl_command.specs.declared.running.RunOptions.{RunOptions}
 use Rattle.ftl_command.specs.declared.ended.Ended.TheVariants.{Done, Found}
@@ -138,11 +139,12 @@ pub record CheckEnds {F W : Type 0} (folders : FolderGhosts F) (folder : F) (fil
 
 -- ---- the text of a message
 
--- what the sources have for the message, by these rules of a locale
+-- What the sources have for the message, by these rules of a locale. If no date is among the arguments, it is what a run answers with.
 abbrev pub reply_for : Rules → Format → List Text → Option Reply
 reply_for by f sources =
-    reply_asked NoFunction (category_in by.plurals) no_text (record { isolating = f.isolating; overriding = f.overriding; numerals = by.numerals }) sources
-    f.request
+    if has_date f.request.arguments
+    then dated_for by f sources
+    else reply_asked NoFunction (category_in by.plurals) no_text (settings_for by f) sources f.request
 
 -- The locale that is asked for has plural rules, or none is, and the outcome holds of what the files' texts have for the message by
 -- those.

@@ -1,6 +1,8 @@
 //! The text of a message, from the sources in files.
 ghost use Rattle.std.specs.Prelude.{◌≡◌, Some, IfOk, IfErr, OnOk, string_bytes};
+ghost use Rattle.fluent_run.specs.RunView.{settings_view};
 ghost use Rattle.fluent_serve.specs.Texts.{texts};
+ghost use Rattle.ftl_command.specs.Dated.{settings_for};
 ghost use Rattle.ftl_command.specs.FormatView.{IsWrittenAs};
 ghost use Rattle.ftl_arguments.specs.CommandView.{format_view};
 ghost use Rattle.ftl_arguments.specs.Meaning as asked;
@@ -10,6 +12,7 @@ ghost use Rattle.ftl_command.specs.Program.{FormatEnds, IsFound, errors_in, repl
 ghost use Rattle.ftl_command.specs.Refusals.{IsEarlyFault, IsFaultOf, IsTextFault, TextWorks};
 
 use crate::borrowed::borrow_texts;
+use crate::dated::{format_dated, has_date};
 use crate::ended::Ended;
 use crate::fault::Fault;
 use crate::files::read_text_files;
@@ -103,6 +106,17 @@ fn with_meant<'words>(format: &Format<'_>, fault: Fault<'words>) -> Fault<'words
     }
 }
 
+/// How the message is formatted, by these rules of a locale.
+pub(crate) fn settings_of(format: &Format<'_>, rules: &RunRules) -> Settings
+    ensures { settings_view result ≡ settings_for (rules_view rules.now) (format_view format.now) }
+{
+    Settings {
+        isolating: format.isolating,
+        overriding: format.overriding,
+        numerals: rules.numerals,
+    }
+}
+
 /// What is written of it from these sources.
 fn formatted_from(
     alloc: Global,
@@ -113,15 +127,13 @@ fn formatted_from(
     ensures { IfOk result (IsWrittenAs
         (reply_for (rules_view rules.now) (format_view format.now) (texts sources.now))) }
 {
-    let settings = Settings {
-        isolating: format.isolating,
-        overriding: format.overriding,
-        numerals: rules.numerals,
-    };
+    if has_date(&format.arguments) {
+        return format_dated(alloc, format, rules, sources);
+    }
     format_message(
         alloc,
         sources,
-        settings,
+        settings_of(format, rules),
         &rules.plurals,
         format.id,
         format.attribute,

@@ -12,6 +12,7 @@
 pub mod borrowed;
 pub mod checking;
 pub mod commands;
+mod dated;
 pub mod ended;
 pub mod fault;
 pub mod files;

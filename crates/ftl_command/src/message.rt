@@ -61,7 +61,7 @@ fn reply<M: MemoizerKind>(
 }
 
 /// What is written of a reply, if there is one.
-fn written(alloc: Global, reply: Option<Reply>) -> Result<Option<Formatted>, AllocError>
+pub(crate) fn written(alloc: Global, reply: Option<Reply>) -> Result<Option<Formatted>, AllocError>
     ensures { IfOk result (IsWrittenAs (option_map reply_view reply)) }
 {
     let Some(mut reply) = reply else {

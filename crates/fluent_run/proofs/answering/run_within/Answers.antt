@@ -56,15 +56,15 @@ returns g c =
     let plurals = c.args.plurals.now in
     let settings = c.args.settings in
     let sources = c.args.sources.now in
-    let same = line-same m.category_of m.stringified c.in_ok-desk.desk plurals settings c.deref.result.now c.in_ok-resources.resources.items sources c.deref.ensures.value c.in_ok-resources.ensures c.in_ok-desk.ensures in
+    let same = line-same m.category_of m.stringified c.in_ok-desk.desk plurals settings _ c.deref.result.now c.in_ok-resources.resources.items sources c.deref.ensures.value c.in_ok-resources.ensures c.in_ok-desk.ensures in
     record {
       answered =
-          run-answered m plurals settings sources g.R.Source c.args.reader.now c.serve.new.reader g.W.Sink c.args.writer.now c.serve.new.writer c.serve.result _ same
+          run-answered m plurals settings sources g.R.Source c.args.reader.now c.serve-outcome.new.reader g.W.Sink c.args.writer.now c.serve-outcome.new.writer c.serve-outcome.result _ same
           (λ others steps input. c.tidied_sources_keep_answers.ensures (texts sources) others steps (m.category_of plurals) (m.stringified plurals (Unit {0}) no_text) (settings_view settings) input)
-          c.serve.ensures.served c.serve.ensures.end;
-      end = c.serve.ensures.end;
-      reads = c.serve.ensures.reads;
-      writes = c.serve.ensures.writes;
-      given_up = c.serve.ensures.given_up;
-      failed = c.serve.ensures.failed;
+          c.serve-outcome.ensures.served c.serve-outcome.ensures.end;
+      end = c.serve-outcome.ensures.end;
+      reads = c.serve-outcome.ensures.reads;
+      writes = c.serve-outcome.ensures.writes;
+      given_up = c.serve-outcome.ensures.given_up;
+      failed = c.serve-outcome.ensures.failed;
     }

@@ -1,11 +1,9 @@
 use Rattle.std.proofs.lemmas.Result.{IfErr-weaker}
 use Rattle.std.proofs.Common.{ap}
 use Rattle.fluent_serve.proofs.Outcomes.{on_ok_always}
-use Rattle.ftl_arguments.specs.CommandView.{command_view}
 use Rattle.ftl_command.proofs.Refusals.{in_place_devices, input_devices, lint_devices, lint_input_devices, text_devices}
 use Rattle.ftl_command.proofs.RunLemmas.{done_by, if_ok_any, first_by, kept_by, never_by}
 use Rattle.ftl_command.specs.declared.fault.Fault.TheVariants.{Input, Memory}
-use Rattle.std.specs.Prelude.{Some}
 use Rattle.ftl_command.proofs.commands.do_command.Goals as goal
 
 pub returns-in-Run-clause-ended : goal.returns-in-Run-clause-ended

@@ -17,7 +17,7 @@ returns-in-Some-get g c =
     let found = c.in-Some.ensures.lookup in
     let inside = found.3.0 in
     let name = c.deref.ensures ∙ ap string_bytes found.1 ∙ sym (get_or-map string_bytes names c.args.place.now c.in-Some.name.now [] inside) in
-    let call = c.deref-2.ensures ∙ c.in_ok-call.ensures ∙ ap (λ n. call_text n values pairs) name in
+    let call = c.as_str.ensures ∙ c.in_ok-call.ensures ∙ ap (λ n. call_text n values pairs) name in
     let answer = c.in-Some-get.ensures ∙ ap (λ s. argument s table) call in
     on_ok c.into_owned.result
     (λ value is. is ∙ ap (λ o. unwrap_or o (g.K.Otherwise.otherwise (get_or (map string_bytes names) c.args.place.now []) values pairs)) answer)
