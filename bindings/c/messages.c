@@ -66,6 +66,22 @@ static uint32_t print_message(
     return answered;
 }
 
+/* Looks a pattern up once, and writes its text for each name into memory of this program. */
+static bool print_greetings(struct Messages *messages, const char *const *names, size_t count) {
+    struct FluentPattern welcome = {.id = bytes_of("welcome"), .id_len = strlen("welcome"), .attribute = bytes_of("")};
+    uint8_t room[64];
+    size_t len;
+    if (fluent_bundle_find(&messages->bundle, welcome.id, welcome.id_len, welcome.attribute, 0, &welcome.number) != FLUENT_READ)
+        return false;
+    for (size_t i = 0; i < count; i++) {
+        const struct FluentArgument name = text_argument("name", names[i]);
+        if (fluent_bundle_write(&messages->bundle, &welcome, &name, 1, room, sizeof room, &len, &messages->errors) != FLUENT_READ)
+            return false;
+        printf("%.*s\n", (int)len, (const char *)room);
+    }
+    return true;
+}
+
 static void free_messages(struct Messages *messages) {
     fluent_bundle_free(&messages->bundle);
     fluent_free_text(&messages->text);
@@ -85,6 +101,8 @@ int main(void) {
     print_message(&messages, "login", "title", jane, 1);
     print_message(&messages, "welcome", "", NULL, 0);
     uint32_t absent = print_message(&messages, "nothing", "", NULL, 0);
+    static const char *const names[] = {"John", "Zoe"};
+    bool are_greeted = print_greetings(&messages, names, 2);
     free_messages(&messages);
-    return absent == FLUENT_NO_MESSAGE && !messages.bundle.held ? 0 : 1;
+    return absent == FLUENT_NO_MESSAGE && are_greeted && !messages.bundle.held ? 0 : 1;
 }

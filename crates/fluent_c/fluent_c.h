@@ -72,6 +72,8 @@ uint32_t fluent_version(void);
 #define FLUENT_NOT_JSON 13
 /* The JSON text has a value that no tree has. */
 #define FLUENT_NOT_TREE 14
+/* The text has more bytes than `room`, and `len` says how many: fluent_bundle_write. */
+#define FLUENT_NO_ROOM 15
 
 struct FluentCounts {
     size_t messages FLUENT_ZERO;
@@ -518,6 +520,52 @@ uint32_t fluent_bundle_has(
     size_t id_len,
     const uint8_t *attribute,
     size_t attribute_len
+);
+
+/* A pattern: a message's value if `attribute_len` is 0, and else its first attribute of that name. No pointer is null. */
+struct FluentPattern {
+    const uint8_t *id FLUENT_ZERO;
+    size_t id_len FLUENT_ZERO;
+    const uint8_t *attribute FLUENT_ZERO;
+    size_t attribute_len FLUENT_ZERO;
+    /* What fluent_bundle_find gave. Any other number is allowed, and only takes a call longer. */
+    size_t number FLUENT_ZERO;
+};
+
+/* Looks a pattern up, and gives its number in this bundle. It returns the numbers of fluent_bundle_has, and only FLUENT_READ
+ * changes `number`. The bundle keeps a reference to each message that was looked up; to look one up again takes no memory.
+ * If memory is refused, the number is that of no message. */
+uint32_t fluent_bundle_find(
+    struct FluentBundle *bundle,
+    const uint8_t *id,
+    size_t id_len,
+    const uint8_t *attribute,
+    size_t attribute_len,
+    size_t *number
+);
+
+/* Writes the text of a pattern into your memory: into the first bytes of `room`, without a byte 0 after them, and how many
+ * they are into `len`. `errors` holds a line for each error, or no text.
+ *
+ * YOU HAVE TO PASS UTF-8: the id, the attribute, and the names and texts of arguments. It isn't checked; with another byte
+ * the behaviour is undefined. An id and an attribute that fluent_bundle_find found are UTF-8.
+ *
+ * The text is that of the id and the attribute, whatever the number is. If the message isn't at its number in this bundle,
+ * since the number is of another bundle, or the bundle was made anew, the message is looked up by its id.
+ *
+ * It returns what fluent_bundle_call returns without answers to calls, with the same text and errors: if the bundle was made
+ * without functions, these are those of fluent_bundle_format. FLUENT_CALL says that the pattern calls a function: go on by
+ * fluent_bundle_call. FLUENT_NO_ROOM says that the text has more than `room_len` bytes, and `len` how many: call again with as
+ * many. Unless it returns FLUENT_READ, `room` and `errors` are unchanged. `room` isn't null, also if `room_len` is 0. */
+uint32_t fluent_bundle_write(
+    struct FluentBundle *bundle,
+    const struct FluentPattern *pattern,
+    const struct FluentArgument *arguments,
+    size_t argument_count,
+    uint8_t *room,
+    size_t room_len,
+    size_t *len,
+    struct FluentText *errors
 );
 
 /* Lists the messages of a bundle: `text` is their ids, each ended by a line feed, and empty if there is none. They are in

@@ -66,6 +66,13 @@ AT(FluentArgument, integer, 32);
 AT(FluentArgument, unsigned_integer, 40);
 AT(FluentArgument, kind, 48);
 
+SIZE(FluentPattern, 40);
+AT(FluentPattern, id, 0);
+AT(FluentPattern, id_len, 8);
+AT(FluentPattern, attribute, 16);
+AT(FluentPattern, attribute_len, 24);
+AT(FluentPattern, number, 32);
+
 SIZE(FluentDate, 20);
 AT(FluentDate, offset, 0);
 AT(FluentDate, nanosecond, 4);

@@ -56,6 +56,17 @@ static uint32_t format_many(struct Kept *kept) {
         many[i] = name, many[i].name_len = 1 + i % 4;
     return fluent_bundle_format(&kept->bundle, TEXT("broken"), TEXT(""), many, 40, &kept->text, &kept->errors);
 }
+static const struct Bytes TEXT_BEFORE = BYTES("\xe2\x81\xa8{$absent}\xe2\x81\xa9 and {nothing}");
+static const struct Bytes ERRORS_BEFORE = BYTES("Unknown variable: $absent\nUnknown message: nothing\n");
+
+static uint32_t write_pattern(struct Kept *kept) {
+    static const struct FluentArgument name = {.name = AT("name"), .name_len = 4, .text = AT("Jane"), .text_len = 4, .kind = FLUENT_TEXT};
+    static const struct FluentPattern pattern = {TEXT("broken"), TEXT(""), 0};
+    uint8_t room[100];
+    size_t len = 0;
+    uint32_t status = fluent_bundle_write(&kept->bundle, &pattern, &name, 1, room, sizeof room, &len, &kept->errors);
+    return (status == FLUENT_READ) == (len == TEXT_BEFORE.len) ? status : FLUENT_NO_ROOM;
+}
 static const struct FluentSource CALLING[] = {BYTES("welcome = Hi\na = { F($name, x: 1) } { b }\n")};
 static const struct FluentSource FUNCTION = BYTES("F");
 #define CALL "[\"F\",[null],{\"x\":{\"number\":\"1\"}}]"
@@ -158,6 +169,7 @@ static const struct {
     {"fluent_bundle_variables", variables},
     {"fluent_bundle_format", format},
     {"fluent_bundle_format of many arguments", format_many},
+    {"fluent_bundle_write", write_pattern},
     {"fluent_bundle_errors", report},
     {"fluent_bundle_has", has},
     {"fluent_negotiate", negotiate},
@@ -168,9 +180,6 @@ static const struct {
     {"fluent_nodes", find_nodes},
     {"fluent_write_tree", write_from_json},
 };
-
-static const struct Bytes TEXT_BEFORE = BYTES("\xe2\x81\xa8{$absent}\xe2\x81\xa9 and {nothing}");
-static const struct Bytes ERRORS_BEFORE = BYTES("Unknown variable: $absent\nUnknown message: nothing\n");
 
 static bool is_unchanged(const struct Kept *kept, const struct Kept *before) {
     return kept->counts.messages == before->counts.messages && kept->position == before->position && kept->place.line == before->place.line

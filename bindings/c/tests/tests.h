@@ -60,6 +60,7 @@ bool try_languages(void);
 bool try_linting(void);
 bool try_listing(void);
 bool try_options(void);
+bool try_patterns(void);
 bool try_occurrences(void);
 bool try_nodes(void);
 bool try_tidying(void);

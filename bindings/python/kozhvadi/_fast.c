@@ -13,14 +13,22 @@
 /* More arguments than these are not on the stack. */
 #define FEW 8
 
+/* A text of at most so many bytes is written into memory of the bundle's calls. */
+#define ROOM 512
+
+/* The number of a message that isn't looked up, and that of one that calls functions. */
+#define NOWHERE SIZE_MAX
+#define CALLS (SIZE_MAX - 1)
+
 /* What is found once: calls of the library, and what is in Python. */
 struct Found {
     __typeof__(&fluent_bundle_format) format;
     __typeof__(&fluent_bundle_call) call;
     __typeof__(&fluent_bundle_calls) calls;
     __typeof__(&fluent_bundle_has) has;
+    __typeof__(&fluent_bundle_find) find;
+    __typeof__(&fluent_bundle_write) write;
     __typeof__(&fluent_free_text) free_text;
-    newfunc new_tuple;
     PyObject *answer;
     PyObject *answers;
     PyObject *each_call;
@@ -42,6 +50,9 @@ struct Calls {
     struct FluentText text;
     struct FluentText errors;
     struct FluentText call;
+    uint8_t room[ROOM];
+    /* The numbers of messages that were asked for, by their ids; of one that calls functions it is CALLS. */
+    PyObject *numbers;
 };
 
 /* Arguments, and the objects that have their names and texts. */
@@ -180,27 +191,22 @@ static PyObject *errors_of(struct Found *found, PyObject *functions, PyObject *l
 /* An answer of a text and of its errors. */
 static PyObject *answer_of(struct Found *found, PyObject *functions, PyObject *text, PyObject *lines) {
     PyObject *errors = errors_of(found, functions, lines);
-    PyObject *fields = errors ? PyTuple_Pack(2, text, errors) : NULL;
-    PyObject *arguments = fields ? PyTuple_Pack(1, fields) : NULL;
-    PyObject *made = arguments ? found->new_tuple((PyTypeObject *)found->answer, arguments, NULL) : NULL;
-    Py_XDECREF(errors);
-    Py_XDECREF(fields);
-    Py_XDECREF(arguments);
+    PyObject *made = errors ? PyType_GenericAlloc((PyTypeObject *)found->answer, 2) : NULL;
+    if (!made) {
+        Py_XDECREF(errors);
+        return NULL;
+    }
+    Py_INCREF(text);
+    PyTuple_SetItem(made, 0, text);
+    PyTuple_SetItem(made, 1, errors);
     return made;
 }
 
-/* An id, and the name of an attribute. */
-struct Names {
-    const uint8_t *id;
-    size_t id_len;
-    const uint8_t *attribute;
-    size_t attribute_len;
-};
-
-/* The names that were given, of which the attribute may be `None`. */
-static bool names_of(struct Found *found, PyObject *const *given, struct Names *names) {
+/* The pattern of these names, of which the attribute may be `None`. It has no number yet. */
+static bool names_of(struct Found *found, PyObject *const *given, struct FluentPattern *names) {
     names->attribute = (const uint8_t *)"";
     names->attribute_len = 0;
+    names->number = NOWHERE;
     return bytes_of(found, given[0], "the id", NULL, &names->id, &names->id_len)
         && (given[1] == Py_None
             || bytes_of(found, given[1], "the name of the attribute", NULL, &names->attribute, &names->attribute_len));
@@ -262,7 +268,7 @@ struct Said {
 
 /* Asks the library: the status. */
 static uint32_t status_of(
-    struct Calls *calls, const struct Names *names, const struct Arguments *arguments, const struct Answers *answers) {
+    struct Calls *calls, const struct FluentPattern *names, const struct Arguments *arguments, const struct Answers *answers) {
     if (!answers->are_asked_for)
         return calls->found->format(
             calls->bundle, names->id, names->id_len, names->attribute, names->attribute_len, arguments->list,
@@ -276,7 +282,7 @@ static uint32_t status_of(
 
 /* Whether the library lists calls in lines. A message with one call isn't asked for others. */
 static bool lists_calls(
-    struct Calls *calls, const struct Names *names, const struct Arguments *arguments, const struct Answers *answers) {
+    struct Calls *calls, const struct FluentPattern *names, const struct Arguments *arguments, const struct Answers *answers) {
     return answers->count
         && calls->found->calls(
                calls->bundle, names->id, names->id_len, names->attribute, names->attribute_len, arguments->list,
@@ -284,16 +290,57 @@ static bool lists_calls(
             == FLUENT_READ;
 }
 
+/* Keeps the number of a message. */
+static void keep_number(struct Calls *calls, PyObject *id, size_t number) {
+    PyObject *kept = PyLong_FromSize_t(number);
+    if (!kept || PyDict_SetItem(calls->numbers, id, kept) < 0)
+        PyErr_Clear();
+    Py_XDECREF(kept);
+}
+
+/* Gives a pattern the number of its message, which is looked up once. */
+static void number(struct Calls *calls, PyObject *id, struct FluentPattern *names) {
+    if (!PyUnicode_CheckExact(id))
+        return;
+    PyObject *kept = PyDict_GetItemWithError(calls->numbers, id);
+    if (kept) {
+        names->number = PyLong_AsSize_t(kept);
+        return;
+    }
+    PyErr_Clear();
+    if (calls->found->find(calls->bundle, names->id, names->id_len, names->attribute, names->attribute_len, &names->number) == FLUENT_READ)
+        keep_number(calls, id, names->number);
+}
+
+/* Whether the library writes a text into the room: if there is one, it isn't long, and it calls no functions. */
+static bool is_written(
+    struct Calls *calls, PyObject *id, struct FluentPattern *names, const struct Arguments *arguments, struct Said *said) {
+    size_t len;
+    number(calls, id, names);
+    if (names->number == CALLS)
+        return false;
+    said->status = calls->found->write(
+        calls->bundle, names, arguments->list, (size_t)arguments->count, calls->room, ROOM, &len, &calls->errors);
+    if (said->status == FLUENT_CALL)
+        keep_number(calls, id, CALLS);
+    if (said->status != FLUENT_READ)
+        return false;
+    said->text = PyUnicode_FromStringAndSize((const char *)calls->room, (Py_ssize_t)len);
+    return true;
+}
+
 /* Asks the library under the lock. Whatever comes back, what it says is to be freed. */
 static bool ask(
-    struct Calls *calls, const struct Names *names, const struct Arguments *arguments, const struct Answers *answers,
-    struct Said *said) {
+    struct Calls *calls, PyObject *id, struct FluentPattern *names, const struct Arguments *arguments,
+    const struct Answers *answers, struct Said *said) {
     said->text = said->lines = NULL;
     if (!lock(calls->acquire))
         return false;
-    said->status = status_of(calls, names, arguments, answers);
+    bool is_short = !answers->count && is_written(calls, id, names, arguments, said);
+    if (!is_short)
+        said->status = status_of(calls, names, arguments, answers);
     bool is_answer = said->status == FLUENT_READ, is_call = said->status == FLUENT_CALL;
-    if (is_answer || is_call)
+    if (!is_short && (is_answer || is_call))
         said->text = string_of(is_call ? &calls->call : &calls->text);
     bool has_lines = is_call ? lists_calls(calls, names, arguments, answers) : is_answer && calls->errors.held;
     if (has_lines)
@@ -320,12 +367,12 @@ static bool answer_calls(
 /* An answer, or the status if there is none. Functions are called until each call that the answer meets has an answer: they
  * may ask the bundle. */
 static PyObject *answered(
-    struct Calls *calls, const struct Names *names, const struct Arguments *arguments, PyObject *functions,
+    struct Calls *calls, PyObject *id, struct FluentPattern *names, const struct Arguments *arguments, PyObject *functions,
     PyObject *formatter, PyObject *given) {
     struct Answers answers = {.are_asked_for = PyDict_Size(functions) > 0};
     struct Said said;
     bool is_said;
-    while ((is_said = ask(calls, names, arguments, &answers, &said)) && said.status == FLUENT_CALL) {
+    while ((is_said = ask(calls, id, names, arguments, &answers, &said)) && said.status == FLUENT_CALL) {
         is_said = answer_calls(calls->found, &said, functions, formatter, given, &answers);
         Py_CLEAR(said.text);
         Py_CLEAR(said.lines);
@@ -346,7 +393,7 @@ static PyObject *answered(
 /* format(id, attribute, arguments, formatter, functions): an answer, or the status if there is none. */
 static PyObject *format(PyObject *self, PyObject *const *given, Py_ssize_t count) {
     struct Calls *calls = (struct Calls *)self;
-    struct Names names;
+    struct FluentPattern names;
     struct Arguments arguments;
     if (count != 5 || !calls->found->answer) {
         PyErr_SetString(PyExc_TypeError, "format takes five arguments, before Python ends");
@@ -355,7 +402,7 @@ static PyObject *format(PyObject *self, PyObject *const *given, Py_ssize_t count
     if (!names_of(calls->found, given, &names))
         return NULL;
     bool are_taken = arguments_of(calls->found, given[2], given[3], &arguments);
-    PyObject *made = are_taken ? answered(calls, &names, &arguments, given[4], given[3], given[2]) : NULL;
+    PyObject *made = are_taken ? answered(calls, given[0], &names, &arguments, given[4], given[3], given[2]) : NULL;
     free_arguments(&arguments);
     return made;
 }
@@ -363,7 +410,7 @@ static PyObject *format(PyObject *self, PyObject *const *given, Py_ssize_t count
 /* has(id, attribute): the status. */
 static PyObject *has(PyObject *self, PyObject *const *given, Py_ssize_t count) {
     struct Calls *calls = (struct Calls *)self;
-    struct Names names;
+    struct FluentPattern names;
     if (count != 2 || !calls->found->encoded) {
         PyErr_SetString(PyExc_TypeError, "has takes two arguments, before Python ends");
         return NULL;
@@ -407,7 +454,8 @@ static PyObject *new_calls(PyTypeObject *type, PyObject *arguments, PyObject *ke
     calls->bundle = bundle;
     calls->acquire = PyObject_GetAttrString(locks, "acquire");
     calls->release = PyObject_GetAttrString(locks, "release");
-    if (calls->acquire && calls->release)
+    calls->numbers = PyDict_New();
+    if (calls->acquire && calls->release && calls->numbers)
         return (PyObject *)calls;
     Py_DECREF(calls);
     return NULL;
@@ -421,6 +469,7 @@ static void free_calls(PyObject *self) {
     calls->found->free_text(&calls->call);
     Py_XDECREF(calls->acquire);
     Py_XDECREF(calls->release);
+    Py_XDECREF(calls->numbers);
     Py_DECREF(calls->owner);
     PyObject_Free(self);
     Py_DECREF(type);
@@ -467,11 +516,12 @@ static void *address_of(const char *call) {
 
 static int fill_module(PyObject *module) {
     struct Found *found = PyModule_GetState(module);
-    found->new_tuple = (newfunc)PyType_GetSlot(&PyTuple_Type, Py_tp_new);
     if (!(found->format = (__typeof__(found->format))address_of("fluent_bundle_format"))
         || !(found->call = (__typeof__(found->call))address_of("fluent_bundle_call"))
         || !(found->calls = (__typeof__(found->calls))address_of("fluent_bundle_calls"))
         || !(found->has = (__typeof__(found->has))address_of("fluent_bundle_has"))
+        || !(found->find = (__typeof__(found->find))address_of("fluent_bundle_find"))
+        || !(found->write = (__typeof__(found->write))address_of("fluent_bundle_write"))
         || !(found->free_text = (__typeof__(found->free_text))address_of("fluent_free_text"))
         || !(found->answer = attribute_of("kozhvadi._answers", "Answer"))
         || !(found->answers = attribute_of("kozhvadi._functions", "Answers"))

@@ -1,12 +1,13 @@
 //! Bundles of resources.
 
 use crate::args::{FluentArgs, NONE};
+use crate::c;
 use crate::call::{Answering, Functions};
 use crate::custom::{Customs, Transform};
 use crate::date_time::{shown_in, Locales};
 use crate::entries::{Asking, Entries, Held};
 use crate::errors::{EntryKind, FluentError};
-use crate::fixed::FixedTexts;
+use crate::fixed::{Known, KnownTexts};
 use crate::kept::{Kept, Refusal, Settings};
 use crate::memoizer::IntlLangMemoizer;
 use crate::message::{FluentMessage, Message, Pattern};
@@ -22,6 +23,7 @@ use std::cell::RefCell;
 use std::collections::HashMap;
 use std::error::Error;
 use std::fmt;
+use std::sync::atomic::{AtomicBool, Ordering};
 use std::sync::{Arc, Mutex, OnceLock, PoisonError};
 use std::thread;
 
@@ -49,8 +51,8 @@ pub struct FluentBundle<R = FluentResource, M = IntlLangMemoizer> {
     /// Messages, terms and functions by their ids, which bundles over the same resources share.
     entries: Arc<Entries>,
     functions: Functions,
-    /// The texts that are the same for all arguments, as far as they were asked for.
-    fixed: FixedTexts,
+    /// What is known of the texts of patterns that were asked for.
+    known: KnownTexts,
     kept: OnceLock<Arc<Kept>>,
     /// A bundle of the library over sources in which each value is shown by a call.
     showing: OnceLock<Arc<Kept>>,
@@ -103,7 +105,7 @@ impl<R: Borrow<FluentResource>> FluentBundle<R, IntlLangMemoizer> {
             resources: Vec::new(),
             entries: Entries::none(),
             functions: Functions::default(),
-            fixed: FixedTexts::default(),
+            known: KnownTexts::default(),
             kept: OnceLock::new(),
             showing: OnceLock::new(),
             numbers: Mutex::default(),
@@ -359,9 +361,11 @@ impl<R: Borrow<FluentResource>, M> FluentBundle<R, M> {
         args: Option<&FluentArgs<'_>>,
         errors: &mut Vec<FluentError>,
     ) -> Cow<'bundle, str> {
-        match self.fixed_text(pattern) {
-            Some(text) => Cow::Borrowed(text),
-            None => Cow::Owned(match self.formatted(pattern, args, errors, |text| text.as_str().to_owned()) {
+        let mut room = ShortText::none();
+        match self.quickly(pattern, args, errors, &mut room) {
+            Quick::Fixed(text) => Cow::Borrowed(text),
+            Quick::Written => Cow::Owned(room.as_str().to_owned()),
+            Quick::Not => Cow::Owned(match self.formatted(pattern, args, errors, |text| text.as_str().to_owned()) {
                 Some(Formatted::Taken(text) | Formatted::Shown(text)) => text,
                 None => reference(pattern),
             }),
@@ -381,10 +385,12 @@ impl<R: Borrow<FluentResource>, M> FluentBundle<R, M> {
         args: Option<&FluentArgs<'_>>,
         errors: &mut Vec<FluentError>,
     ) -> fmt::Result {
-        if let Some(text) = self.fixed_text(pattern) {
-            return w.write_str(text);
-        }
         let mut copy = ShortText::none();
+        match self.quickly(pattern, args, errors, &mut copy) {
+            Quick::Fixed(text) => return w.write_str(text),
+            Quick::Written => return w.write_str(copy.as_str()),
+            Quick::Not => {}
+        }
         match self.formatted(pattern, args, errors, |text| copy.take(text)) {
             Some(Formatted::Taken(None)) => w.write_str(copy.as_str()),
             Some(Formatted::Taken(Some(text))) => {
@@ -412,22 +418,50 @@ impl<R: Borrow<FluentResource>, M> FluentBundle<R, M> {
         self.message(pattern.id())?.pattern(pattern.attribute())
     }
 
-    /// The text of a pattern, if it is the same for all arguments.
+    /// What is known of the text of a pattern of this bundle.
     ///
-    /// It is if there are no errors without arguments, by the law `needs_no_arguments` of the library: a variable that
-    /// is missing is an error, so none was asked for.
-    fn fixed_text<'p>(&'p self, pattern: &'p Pattern) -> Option<&'p str> {
-        let own = self.own(pattern)?;
-        self.fixed.get(own, self.entries.numbers(), || {
-            let shown = |text: &str| {
-                Customs::default().shown(text, self.transform, Locales::default()).map(String::into_boxed_str)
-            };
-            let fixed = |text: &mut Text, errors: &str| {
-                errors.is_empty().then(|| shown(text.as_str()).unwrap_or_else(|| text.as_str().into()))
-            };
-            // A text that calls a function isn't kept.
-            self.kept(self.shows(None)).format(own, NONE, |_| None, fixed).ok()?
-        })
+    /// It is the same for all arguments if there are no errors without arguments, by the law `needs_no_arguments` of the
+    /// library: a variable that is missing is an error, so none was asked for.
+    #[cold]
+    fn found_out(&self, own: &Pattern) -> Known {
+        let shown =
+            |text: &str| Customs::default().shown(text, self.transform, Locales::default()).map(String::into_boxed_str);
+        let fixed = |text: &mut Text, errors: &str| {
+            errors.is_empty().then(|| shown(text.as_str()).unwrap_or_else(|| text.as_str().into()))
+        };
+        // A text that calls a function isn't kept.
+        match self.kept(self.shows(None)).format(own, NONE, |_| None, fixed) {
+            Ok(Some(text)) => Known::Fixed(text),
+            _ => Known::Varies { number: self.kept(false).find(own), calls: AtomicBool::new(false) },
+        }
+    }
+
+    /// The text of a pattern, if the library writes it as it is shown, and it is fixed or isn't long. Errors are added to
+    /// `errors`.
+    #[inline]
+    fn quickly<'p>(
+        &'p self,
+        pattern: &'p Pattern,
+        args: Option<&FluentArgs<'_>>,
+        errors: &mut Vec<FluentError>,
+        room: &mut ShortText,
+    ) -> Quick<'p> {
+        let Some(own) = self.own(pattern) else { return Quick::Not };
+        let (number, calls) = match self.known.get(own, self.entries.numbers(), || self.found_out(own)) {
+            Known::Fixed(text) => return Quick::Fixed(text),
+            Known::Varies { number, calls } => (*number, calls),
+        };
+        let args = args.unwrap_or(NONE);
+        let is_shown_so = self.formatter.is_none() && self.transform.is_none() && args.are_plain();
+        if !is_shown_so || calls.load(Ordering::Relaxed) {
+            return Quick::Not;
+        }
+        match self.kept(false).write(own, number, args, room, |lines| tell(lines, errors)) {
+            c::FLUENT_READ => return Quick::Written,
+            c::FLUENT_CALL => calls.store(true, Ordering::Relaxed),
+            _ => {}
+        }
+        Quick::Not
     }
 
     /// What `took` makes of the text of a pattern, or `None` if there is none. Errors are added to `errors`.
@@ -459,7 +493,7 @@ impl<R: Borrow<FluentResource>, M> FluentBundle<R, M> {
                 errors.extend(answering.errors.drain(..).map(FluentError::from));
             }
             if !lines.is_empty() {
-                errors.extend(lines.split_terminator('\n').map(|line| ResolverError::of_line(line).into()));
+                tell(lines, errors);
             }
             match answering.customs.shown(text.as_str(), self.transform, self.locales()) {
                 Some(text) => Formatted::Shown(text),
@@ -588,7 +622,7 @@ impl<R: Borrow<FluentResource>, M> FluentBundle<R, M> {
     fn forget(&mut self) {
         self.kept.take();
         self.showing.take();
-        self.fixed = FixedTexts::default();
+        self.known = KnownTexts::default();
         self.numbers.get_mut().unwrap_or_else(PoisonError::into_inner).clear();
     }
 }
@@ -598,6 +632,22 @@ fn number_source(options: &str) -> String {
     let categories = ["zero", "one", "two", "few", "many"].map(|name| format!("    [{name}] {name}\n")).concat();
     let number = format!("NUMBER($number{options})");
     format!("number = {{ {number} }}\ncategory = {{ {number} ->\n{categories}   *[other] other\n}}\n")
+}
+
+/// Adds the errors of these lines.
+#[cold]
+fn tell(lines: &str, errors: &mut Vec<FluentError>) {
+    errors.extend(lines.split_terminator('\n').map(|line| ResolverError::of_line(line).into()));
+}
+
+/// What came of a text that was asked for quickly.
+enum Quick<'p> {
+    /// It is lent.
+    Fixed(&'p str),
+    /// It was written.
+    Written,
+    /// It has to be asked for in the other way.
+    Not,
 }
 
 /// The text of a pattern.

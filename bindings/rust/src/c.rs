@@ -99,6 +99,16 @@ pub struct FluentArgument {
     pub kind: u32,
 }
 
+/// A message's value, or an attribute of it if the name isn't empty.
+#[repr(C)]
+pub struct FluentPattern {
+    pub id: *const u8,
+    pub id_len: usize,
+    pub attribute: *const u8,
+    pub attribute_len: usize,
+    pub number: usize,
+}
+
 /// A date, its time if it has one, and the offset of its clock if that is known.
 #[repr(C)]
 pub struct FluentDate {
@@ -179,6 +189,24 @@ extern "C" {
         text: *mut FluentText,
         errors: *mut FluentText,
     ) -> u32;
+    pub fn fluent_bundle_find(
+        bundle: *mut FluentBundle,
+        id: *const u8,
+        id_len: usize,
+        attribute: *const u8,
+        attribute_len: usize,
+        number: *mut usize,
+    ) -> u32;
+    pub fn fluent_bundle_write(
+        bundle: *mut FluentBundle,
+        pattern: *const FluentPattern,
+        arguments: *const FluentArgument,
+        argument_count: usize,
+        room: *mut u8,
+        room_len: usize,
+        len: *mut usize,
+        errors: *mut FluentText,
+    ) -> u32;
     pub fn fluent_has_plural_rules(locale: *const u8, locale_len: usize) -> bool;
     pub fn fluent_negotiate(
         requested: *const FluentSource,
@@ -249,6 +277,7 @@ mod tests {
             FluentBundle { held sources read desk }
             FluentBundleOptions { size locale locale_len stack isolating overriding plain_numbers }
             FluentArgument { name name_len text text_len integer unsigned_integer kind }
+            FluentPattern { id id_len attribute attribute_len number }
             FluentDate { offset nanosecond year month day hour minute second has_time has_offset }
         };
         assert_eq!(ours, asserted);

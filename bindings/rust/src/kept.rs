@@ -3,7 +3,7 @@
 use crate::args::{FluentArgs, NONE};
 use crate::c;
 use crate::message::Pattern;
-use crate::text::Text;
+use crate::text::{ShortText, Text};
 use crate::value::FluentValue;
 use std::sync::{Mutex, MutexGuard, PoisonError};
 use std::{mem, ptr};
@@ -127,6 +127,66 @@ impl Kept {
                 }
             }
         }
+    }
+
+    /// The number by which the library finds a pattern. Of one that isn't there it is any.
+    pub(crate) fn find(&self, pattern: &Pattern) -> usize {
+        let (id, name) = (pattern.id(), pattern.attribute());
+        let mut number = 0;
+        // SAFETY: each pointer is that of a slice of the length next to it, and the handle holds a bundle, which is lent
+        // by `&mut`.
+        unsafe {
+            c::fluent_bundle_find(
+                &mut self.asked().handle,
+                id.as_ptr(),
+                id.len(),
+                name.as_ptr(),
+                name.len(),
+                &mut number,
+            )
+        };
+        number
+    }
+
+    /// Writes the text of a pattern, which has this number, into `text`, and passes the lines of its errors on, if there
+    /// are any. Gives the status of the library: there is no room for a long text.
+    #[inline]
+    pub(crate) fn write(
+        &self,
+        pattern: &Pattern,
+        number: usize,
+        args: &FluentArgs<'_>,
+        text: &mut ShortText,
+        told: impl FnOnce(&str),
+    ) -> u32 {
+        let (id, name) = (pattern.id(), pattern.attribute());
+        let pattern = c::FluentPattern {
+            id: id.as_ptr(),
+            id_len: id.len(),
+            attribute: name.as_ptr(),
+            attribute_len: name.len(),
+            number,
+        };
+        args.with_c(|args| {
+            let mut asked = self.asked();
+            let Asked { handle, errors, .. } = &mut *asked;
+            let mut status = c::FLUENT_NO_MEMORY;
+            let write = |room: *mut u8, room_len, len: &mut usize| {
+                let (arguments, count) = (args.as_ptr(), args.len());
+                // SAFETY: each pointer is that of a slice of the length next to it, or of memory that the library only
+                // writes; all texts are `str`; and the handle holds a bundle, which is lent by `&mut`.
+                status = unsafe {
+                    c::fluent_bundle_write(handle, &pattern, arguments, count, room, room_len, len, errors.place())
+                };
+                status == c::FLUENT_READ
+            };
+            // SAFETY: the library has written the bytes of a `String` then, and how many they are.
+            let is_written = unsafe { text.be_written(write) };
+            if is_written && errors.is_there() {
+                told(errors.as_str());
+            }
+            status
+        })
     }
 
     /// Returns a text whose memory the next answer uses.

@@ -1,5 +1,5 @@
 -- What C learns of a bundle that it keeps.
-use Rattle.std.specs.Prelude.{◌≡◌, ◌⊎◌, Bool, true, false, List, [], ◌∷◌, Option, Some, None, IsNone, IsSome, IsSomeAnd, IsUtf8, map, option_and_then, option_copied, option_map, String, Vec, string_bytes, vec_items}
+use Rattle.std.specs.Prelude.{◌≡◌, ◌⊎◌, ℕ, Bool, true, false, List, [], ◌∷◌, Option, Some, None, IsNone, IsSome, IsSomeAnd, IsUtf8, map, option_and_then, option_copied, option_map, String, Vec, string_bytes, vec_items}
 use Rattle.std.specs.List.{flat_map}
 use Rattle.std.specs.declared.alloc.Global.{Global}
 use denote.Ref.{Bor}
@@ -22,9 +22,9 @@ use Rattle.fluent_c.specs.declared.arguments.FluentArgument.{FluentArgument}
 use Rattle.fluent_c.specs.declared.text.FluentText.{FluentText}
 
 -- what a bundle is made of, if the locale has plural rules
-abbrev pub catalog_in : Option (List Text) → Settings → Text → List Text → Option Catalog
-catalog_in functions settings locale sources =
-    option_map (λ plurals. record { settings = settings; plurals = plurals; sources = sources; functions = functions }) (plurals_in locale)
+abbrev pub catalog_in : Option (List Text) → Settings → ℕ → Text → List Text → Option Catalog
+catalog_in functions settings stack locale sources =
+    option_map (λ plurals. record { settings = settings; plurals = plurals; sources = sources; stack = stack; functions = functions }) (plurals_in locale)
 
 -- the names of functions, if there are any
 abbrev pub names_in : Option (Vec (String Global) Global) → Option (List Text)
@@ -38,26 +38,31 @@ settings_asked tag asking = settings_of (option_and_then locale_for (option_copi
 abbrev pub Keeps : FluentBundle → Catalog → Type 0
 Keeps bundle catalog = (bundle.held ≡ true) × (bundle.catalog ≡ catalog)
 
--- there is a bundle of these sources, for a locale that has plural rules and with these settings, whose messages may call functions
--- of these names, if there are any
-abbrev pub KeepsWith : Option (List Text) → Settings → Text → List FluentSource → FluentBundle → Type 0
-KeepsWith functions settings locale sources bundle = IsSomeAnd (catalog_in functions settings locale (texts_of sources)) (Keeps bundle)
+-- there is a bundle of these sources, for a locale that has plural rules, with these settings and so many bytes of the machine's stack,
+-- whose messages may call functions of these names, if there are any
+abbrev pub KeepsWith : Option (List Text) → Settings → ℕ → Text → List FluentSource → FluentBundle → Type 0
+KeepsWith functions settings stack locale sources bundle =
+    IsSomeAnd (catalog_in functions settings stack locale (texts_of sources)) (Keeps bundle)
 
 -- the same by the code's values
 abbrev pub KeepsAsked : Option (Vec (String Global) Global) → Option (Bor Text) → Asking → Text → List FluentSource → FluentBundle → Type 0
-KeepsAsked functions tag asking = KeepsWith (names_in functions) (settings_asked tag asking)
+KeepsAsked functions tag asking = KeepsWith (names_in functions) (settings_asked tag asking) asking.stack.bytes
 
 -- the same without functions
-abbrev pub KeepsBy : Settings → Text → List FluentSource → FluentBundle → Type 0
+abbrev pub KeepsBy : Settings → ℕ → Text → List FluentSource → FluentBundle → Type 0
 KeepsBy = KeepsWith None
 
 -- it writes numbers as the locale writes them, and plainly if CLDR doesn't say how
-abbrev pub KeepsSources : Text → Bool → Bool → List FluentSource → FluentBundle → Type 0
-KeepsSources locale isolating overriding = KeepsBy (settings_of (locale_for locale) isolating overriding) locale
+abbrev pub KeepsSources : Text → Bool → Bool → ℕ → List FluentSource → FluentBundle → Type 0
+KeepsSources locale isolating overriding stack = KeepsBy (settings_of (locale_for locale) isolating overriding) stack locale
 
 -- it writes them plainly
-abbrev pub KeepsPlain : Text → Bool → Bool → List FluentSource → FluentBundle → Type 0
-KeepsPlain locale isolating overriding = KeepsBy (settings_of None isolating overriding) locale
+abbrev pub KeepsPlain : Text → Bool → Bool → ℕ → List FluentSource → FluentBundle → Type 0
+KeepsPlain locale isolating overriding stack = KeepsBy (settings_of None isolating overriding) stack locale
+
+-- how many bytes of the machine's stack a call takes that isn't told: 1.5 MB
+abbrev pub thread_stack : ℕ
+thread_stack = 1572864
 
 -- there is no bundle
 abbrev pub KeepsNone : FluentBundle → Type 0

@@ -1,7 +1,7 @@
 -- What C learns of a bundle whose messages call functions.
 use Rattle.std.specs.Prelude.{◌≡◌, ◌≢◌, ◌⊎◌, ℕ, true, List, [], ◌∷◌, Option, Some, None, IsNone, IsSome, IsSomeAnd, map}
 use Rattle.fluent_answers.specs.Answers.{pattern_asked, reply_to}
-use Rattle.fluent_calls.specs.Functions.{Table}
+use Rattle.fluent_calls.specs.Functions.{IsUnanswered, Table}
 use Rattle.fluent_calls.specs.Gathering.{AreGathered}
 use Rattle.fluent_grammar.specs.Tree.{Elements, Message}
 use Rattle.fluent_grammar.specs.Words.{Text}
@@ -11,14 +11,14 @@ use Rattle.fluent_kept.specs.declared.handle.FluentBundle.{FluentBundle}
 use Rattle.fluent_meaning.specs.Environment.{Environment}
 use Rattle.fluent_serve.specs.Frames.{Reply}
 use Rattle.fluent_serve.specs.Requests.{Request}
-use Rattle.fluent_value.specs.Args.{all_set, argument}
+use Rattle.fluent_value.specs.Args.{all_set}
 use Rattle.fluent_value.specs.Value.{Value}
 use Rattle.fluent_value.specs.declared.function.NoFunction.{NoFunction}
 use Rattle.fluent_c.specs.Answering.{AreUtf8, HoldsOther, plurals_in, texts_of}
 use Rattle.fluent_c.specs.Arguments.{AreRefusedFor, AreTaken, HoldsBad, pair_of}
 use Rattle.fluent_c.specs.Bundles.{AreNames, HasOther, HoldReply, KeepsNone, KeepsWith, attribute_in}
 use Rattle.fluent_c.specs.Made.{Holds}
-use Rattle.fluent_c.specs.Options.{settings_in}
+use Rattle.fluent_c.specs.Options.{settings_in, stack_in}
 use Rattle.fluent_c.specs.Statuses.{IsOneOf}
 use Rattle.fluent_c.specs.declared.TheConstants.{FLUENT_READ, FLUENT_NOT_UTF8, FLUENT_NO_MEMORY, FLUENT_UNKNOWN_LOCALE, FLUENT_NO_MESSAGE, FLUENT_NO_PATTERN, FLUENT_BAD_ARGUMENT, FLUENT_NO_BUNDLE, FLUENT_CALL, FLUENT_BUNDLE_OPTIONS_SIZE}
 use Rattle.fluent_c.specs.declared.answering.FluentSource.{FluentSource}
@@ -30,7 +30,7 @@ use Rattle.fluent_c.specs.declared.text.FluentText.{FluentText}
 
 -- there is a bundle of these sources, by these options, whose messages may call functions of these names
 abbrev pub KeepsCalling : List FluentSource → FluentBundleOptions → List FluentSource → FluentBundle → Type 0
-KeepsCalling functions options = KeepsWith (Some (texts_of functions)) (settings_in options) options.locale.now
+KeepsCalling functions options = KeepsWith (Some (texts_of functions)) (settings_in options) (stack_in options) options.locale.now
 
 -- what a call returns that makes such a bundle
 pub record MakesCalling (options : FluentBundleOptions) (sources functions : List FluentSource) (status : ℕ) : Type 0 where
@@ -89,7 +89,7 @@ MayCall bundle id attribute answers = IsSome (calling_in bundle answers)
 pub record HoldsMissing (answers : List FluentArgument) (made : FluentText) : Type 0 where
   pub call : Text
   pub held : Holds made call
-  pub missing : argument call (answers_of answers) ≡ None
+  pub missing : IsUnanswered (answers_of answers) call
 
 -- lines of the calls that are gathered of what is asked for, and none where there are no functions
 abbrev pub AreCallsBy : Option (Environment (Unit {0}) ℕ) → Text → Option Text → List (Text × Value (Unit {0})) → Table → Text → Type 0

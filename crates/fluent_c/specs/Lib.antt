@@ -15,6 +15,7 @@ pub mod Listing
 pub mod Options
 pub mod Outline
 pub mod Calling
+pub mod Patterns
 pub mod Statuses
 pub mod Dates
 pub mod Tidying

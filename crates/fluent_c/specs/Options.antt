@@ -1,11 +1,11 @@
 -- How a bundle is made by options.
-use Rattle.std.specs.Prelude.{◌≡◌, ◌≢◌, ℕ, if◌then◌else◌, List, [], ◌∷◌, Option, None, String, Vec}
+use Rattle.std.specs.Prelude.{◌≡◌, ◌≢◌, ℕ, zero, suc, if◌then◌else◌, List, [], ◌∷◌, Option, None, String, Vec}
 use Rattle.std.specs.declared.alloc.Global.{Global}
 use Rattle.fluent_answers.specs.Sources.{Settings}
 use Rattle.fluent_kept.specs.declared.handle.FluentBundle.{FluentBundle}
 use Rattle.fluent_numerals.specs.Lookup.{locale_for}
 use Rattle.fluent_c.specs.Answering.{AreUtf8, HoldsOther, plurals_in, settings_of}
-use Rattle.fluent_c.specs.Bundles.{KeepsBy, KeepsWith, names_in}
+use Rattle.fluent_c.specs.Bundles.{KeepsBy, KeepsWith, names_in, thread_stack}
 use Rattle.fluent_c.specs.Statuses.{IsOneOf}
 use Rattle.fluent_c.specs.declared.TheConstants.{FLUENT_READ, FLUENT_NOT_UTF8, FLUENT_NO_MEMORY, FLUENT_UNKNOWN_LOCALE, FLUENT_BAD_ARGUMENT, FLUENT_BUNDLE_OPTIONS_SIZE}
 use Rattle.fluent_c.specs.declared.answering.FluentSource.{FluentSource}
@@ -16,13 +16,22 @@ abbrev pub settings_in : FluentBundleOptions → Settings
 settings_in options =
     settings_of (if options.plain_numbers then None else locale_for options.locale.now) options.isolating options.overriding
 
+-- so many bytes, and those of a thread for none
+abbrev pub or_thread : ℕ → ℕ
+or_thread zero = thread_stack
+or_thread (suc bytes) = suc bytes
+
+-- how many bytes of the machine's stack reading and an answer may take
+abbrev pub stack_in : FluentBundleOptions → ℕ
+stack_in options = or_thread options.stack
+
 -- there is a bundle of these sources, by these options, whose messages may call functions of these names, if there are any
 abbrev pub KeepsNamed : Option (Vec (String Global) Global) → FluentBundleOptions → List FluentSource → FluentBundle → Type 0
-KeepsNamed functions options = KeepsWith (names_in functions) (settings_in options) options.locale.now
+KeepsNamed functions options = KeepsWith (names_in functions) (settings_in options) (stack_in options) options.locale.now
 
 -- there is a bundle of these sources, by these options
 abbrev pub KeepsOptions : FluentBundleOptions → List FluentSource → FluentBundle → Type 0
-KeepsOptions options = KeepsBy (settings_in options) options.locale.now
+KeepsOptions options = KeepsBy (settings_in options) (stack_in options) options.locale.now
 
 -- what a call returns that makes a bundle of sources by options
 pub record MakesBundle (options : FluentBundleOptions) (sources : List FluentSource) (status : ℕ) : Type 0 where

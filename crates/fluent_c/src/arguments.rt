@@ -55,7 +55,10 @@ impl From<AllocError> for ArgumentRefusal {
 }
 
 /// The value of an argument whose text is UTF-8, or `None` if it has none.
-fn value_of<'a>(argument: &FluentArgument<'a>, text: &'a str) -> Option<FluentValue<'a, NoCustom>>
+pub(crate) fn value_of<'a>(
+    argument: &FluentArgument<'a>,
+    text: &'a str,
+) -> Option<FluentValue<'a, NoCustom>>
     requires { text.now ≡ argument.now.text.now }
     ensures { value_seen result ≡ value_given argument.now }
 {
@@ -174,7 +177,7 @@ fn in_order<'a>(
 
 /// More arguments than these are set in the order of their names: then none has to make room for
 /// another.
-const FEW: usize = 16;
+pub(crate) const FEW: usize = 16;
 
 /// The arguments by their names. Of arguments with one name the last counts.
 ///

@@ -5,7 +5,7 @@ ghost use Rattle.std.specs.Prelude.{◌≡◌, ◌≢◌, ◌∷◌, [], true, I
 ghost use Rattle.fluent_serve.specs.Texts.{texts};
 ghost use Rattle.fluent_check.specs.Report.{report_text};
 ghost use Rattle.fluent_c.specs.Answering.{HoldsOther, plurals_in};
-ghost use Rattle.fluent_c.specs.Bundles.{KeepsAsked, KeepsNone, KeepsPlain, KeepsSame, KeepsSources};
+ghost use Rattle.fluent_c.specs.Bundles.{KeepsAsked, KeepsNone, KeepsPlain, KeepsSame, KeepsSources, thread_stack};
 ghost use Rattle.fluent_c.specs.Made.{Holds, HoldsSame};
 ghost use Rattle.fluent_c.specs.Statuses.{IsOneOf, LooksFor, ReadsSources};
 ghost use Rattle.fluent_c.specs.declared.TheConstants.{FLUENT_READ, FLUENT_NO_MEMORY, FLUENT_NO_BUNDLE};
@@ -154,7 +154,7 @@ pub extern "C" fn fluent_bundle_new(
 ) -> u32
     ensures status { ReadsSources sources.now locale.now result }
     ensures made { result ≡ FLUENT_READ
-        → KeepsSources locale.now isolating overriding sources.now made.new }
+        → KeepsSources locale.now isolating overriding thread_stack sources.now made.new }
     ensures unchanged { result ≢ FLUENT_READ → made.new ≡ made.old }
 {
     let stack = StackBudget::THREAD.bytes();
@@ -177,7 +177,7 @@ pub extern "C" fn fluent_bundle_new_within(
 ) -> u32
     ensures status { ReadsSources sources.now locale.now result }
     ensures made { result ≡ FLUENT_READ
-        → KeepsSources locale.now isolating overriding sources.now made.new }
+        → KeepsSources locale.now isolating overriding stack sources.now made.new }
     ensures unchanged { result ≢ FLUENT_READ → made.new ≡ made.old }
 {
     let asking = Asking {
@@ -201,7 +201,7 @@ pub extern "C" fn fluent_bundle_new_plain(
 ) -> u32
     ensures status { ReadsSources sources.now locale.now result }
     ensures made { result ≡ FLUENT_READ
-        → KeepsPlain locale.now isolating overriding sources.now made.new }
+        → KeepsPlain locale.now isolating overriding stack sources.now made.new }
     ensures unchanged { result ≢ FLUENT_READ → made.new ≡ made.old }
 {
     let asking = Asking {

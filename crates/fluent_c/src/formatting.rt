@@ -24,7 +24,7 @@ use std::cell::Cell;
 ///
 /// # Errors
 /// [`AllocError`] if memory runs out; nothing is kept.
-fn error_lines(alloc: Global, reply: &Reply) -> Result<FluentText, AllocError>
+pub(crate) fn error_lines(alloc: Global, reply: &Reply) -> Result<FluentText, AllocError>
     ensures { IfOk result (λ made. HoldsLines made (reply_view reply.now).errors) }
 {
     if reply.errors.is_empty() {

@@ -33,6 +33,8 @@ mod nodes;
 mod occurrences;
 mod options;
 mod outline;
+mod patterns;
+mod promised;
 mod text;
 mod threads;
 mod tidying;
@@ -63,6 +65,7 @@ pub use nodes::fluent_nodes;
 pub use occurrences::fluent_occurrences;
 pub use options::{FluentBundleOptions, fluent_bundle_new_with};
 pub use outline::fluent_outline;
+pub use patterns::{FluentPattern, fluent_bundle_find, fluent_bundle_write};
 pub use text::{FluentText, fluent_free_text};
 pub use threads::texts_are_send;
 pub use tidying::{FluentPlace, fluent_tidy};
@@ -110,6 +113,8 @@ pub const FLUENT_CALL: u32 = 12;
 pub const FLUENT_NOT_JSON: u32 = 13;
 /// What a call returns whose JSON text has a value that no tree has.
 pub const FLUENT_NOT_TREE: u32 = 14;
+/// What a call returns whose text has more bytes than it was given room for.
+pub const FLUENT_NO_ROOM: u32 = 15;
 /// The kind of an argument that is a text.
 pub const FLUENT_TEXT: u32 = 0;
 /// The kind of an argument that is a number, written as a decimal.

@@ -1,7 +1,7 @@
 //! Bundles that are made by options.
 
 ghost use Rattle.std.specs.Prelude.{◌≡◌, ◌≢◌};
-ghost use Rattle.fluent_c.specs.Options.{KeepsNamed, KeepsOptions, MakesBundle};
+ghost use Rattle.fluent_c.specs.Options.{KeepsNamed, KeepsOptions, MakesBundle, stack_in};
 ghost use Rattle.fluent_c.specs.Statuses.{ReadsSources};
 ghost use Rattle.fluent_c.specs.declared.TheConstants.{FLUENT_READ};
 
@@ -43,6 +43,7 @@ impl FluentBundleOptions<'_> {
     fn asking(&self) -> Asking
         ensures isolating { result.isolating ≡ self.now.isolating }
         ensures overriding { result.overriding ≡ self.now.overriding }
+        ensures stack { result.stack.bytes ≡ stack_in self.now }
     {
         let stack = match self.stack {
             0 => StackBudget::THREAD,

@@ -34,6 +34,7 @@ use Rattle.fluent_kept.specs.Handle.{handle_owns}
 use Rattle.fluent_kept.specs.Kept.{lived, sources_row, resources_row, desk_row, some_boxed, some_lent, bundle_owns}
 use Rattle.fluent_kept.specs.contracts.desk.Desks as desks
 use Rattle.fluent_kept.specs.contracts.desk.KeptDesk as kept_desk
+use Rattle.fluent_kept.specs.contracts.found.Found as found
 use Rattle.fluent_kept.specs.contracts.resources.Resources as resources
 use Rattle.fluent_kept.proofs.sources.Sources.TheSendSync as sources
 
@@ -124,8 +125,16 @@ module _ (r s : NamedLft) where
   resources_sync : IsSync (resources.the_row s)
   resources_sync = let a = std.Vec-sync (read.the_row s) read_sync in let b = sources_sync in search sendable depth 60 fits 20000
 
+  found_send : IsSend (found.the_row r s)
+  found_send = let a = message_sync in let b = str_sync in search (maps.crosses, std.crosses, sendable) depth 60 fits 20000
+
+  found_field_send : IsSend (found.the_field r s).row
+  found_field_send = let a = message_sync in let b = str_sync in search (maps.crosses, std.crosses, sendable) depth 60 fits 20000
+
   pub desk_send : IsSend (kept_desk.the_row r s)
-  desk_send = let a = desks_send in let b = resources_sync in let c = desks_field_send in search sendable depth 60 fits 20000
+  desk_send =
+      let a = desks_send in let b = resources_sync in let c = desks_field_send in let d = found_send in let e = found_field_send in
+      search sendable depth 60 fits 20000
 
   read_send : IsSend (read.the_row s)
   read_send = search (std.crosses, knot.crosses, knot.crosses_both, sendable) depth 60 fits 20000

@@ -9,13 +9,14 @@ use Rattle.fluent_run.specs.DeskView.{Gives, IsMadeOf, environment_by, environme
 use Rattle.fluent_run.specs.RunView.{settings_view}
 use Rattle.fluent_run.specs.declared.desk.Desk.{Desk}
 use Rattle.fluent_run.specs.declared.settings.Settings.{Settings}
+use Rattle.fluent_text.specs.declared.stack.StackBudget.{StackBudget}
 use Rattle.fluent_kept.specs.Catalogs.{Catalog}
 
 -- by what a desk was made of
-pub environment-same : {F : Type 0} (gives : Gives F) (ids : Ids F) (resources : List FluentResource) (settings : Settings) (plurals : LanguagePlurals) (desk : Desk LanguagePlurals F) (catalog : Catalog) →
-    IsMadeOf ids resources settings plurals desk → settings_view settings ≡ catalog.settings → plurals ≡ catalog.plurals →
+pub environment-same : {F : Type 0} (gives : Gives F) (ids : Ids F) (resources : List FluentResource) (settings : Settings) (plurals : LanguagePlurals) (budget : StackBudget) (desk : Desk LanguagePlurals F) (catalog : Catalog) →
+    IsMadeOf ids resources settings plurals budget desk → settings_view settings ≡ catalog.settings → plurals ≡ catalog.plurals →
     environment_by plurals_by (λ _ S text. text) gives desk ≡ environment_from plurals_by (λ _ S text. text) ids catalog.settings catalog.plurals gives
-environment-same gives ids resources settings plurals desk catalog made set by =
-    environment-made plurals_by (λ _ S text. text) gives ids resources settings plurals desk made
+environment-same gives ids resources settings plurals budget desk catalog made set by =
+    environment-made plurals_by (λ _ S text. text) gives ids resources settings plurals budget desk made
     ∙ ap (λ x. environment_from plurals_by (λ _ S text. text) ids x plurals gives) set
     ∙ ap (λ x. environment_from plurals_by (λ _ S text. text) ids catalog.settings x gives) by

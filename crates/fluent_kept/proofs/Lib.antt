@@ -10,3 +10,4 @@ mod Calling
 mod HandleMade
 mod Crossing
 mod Messages
+mod Written

@@ -22,6 +22,7 @@ use Rattle.fluent_value.specs.Args.{order}
 use Rattle.fluent_value.specs.declared.function.NoFunction.{NoFunction}
 use Rattle.fluent_kept.specs.Answers.{IsFound, found as answered}
 use Rattle.fluent_kept.specs.Catalogs.{CallsAs, Catalog, catalog_environment}
+use Rattle.fluent_kept.specs.Found.{pattern_of}
 
 -- what an id stands for, as far as it is a message
 abbrev told : {F : Type 0} → Option (Meaning F) → Option (Option t.Message)
@@ -114,6 +115,14 @@ asked-of attribute None = None
 asked-of None (Some m) = m.value
 asked-of (Some name) (Some m) = attribute_named name m.attributes
 
+asked-there : (attribute : Option Text) (m : t.Message) → asked-of attribute (Some m) ≡ pattern_of attribute m
+asked-there None m = refl
+asked-there (Some name) m = refl
+
+asked-missing : (attribute : Option Text) → asked-of attribute None ≡ None
+asked-missing None = refl
+asked-missing (Some name) = refl
+
 of-message : {F : Type 0} (attribute : Option Text) (found : Option (Meaning F)) → pattern_asked attribute found ≡ asked-of attribute (message_in found)
 of-message attribute None = refl
 of-message attribute (Some number_function) = refl
@@ -126,12 +135,26 @@ of-message (Some name) (Some (message m)) = refl
 pub pattern-same : {F G : Type 0} (attribute : Option Text) (f : Option (Meaning F)) (g : Option (Meaning G)) → message_in f ≡ message_in g → pattern_asked attribute f ≡ pattern_asked attribute g
 pattern-same attribute f g same = of-message attribute f ∙ ap (asked-of attribute) same ∙ sym (of-message attribute g)
 
+-- the pattern of a message that is there, and none of one that isn't
+pub pattern-there : {F : Type 0} (attribute : Option Text) (found : Option (Meaning F)) (m : t.Message) → message_in found ≡ Some m → pattern_asked attribute found ≡ pattern_of attribute m
+pattern-there attribute found m is = of-message attribute found ∙ ap (asked-of attribute) is ∙ asked-there attribute m
+
+pub pattern-missing : {F : Type 0} (attribute : Option Text) (found : Option (Meaning F)) → message_in found ≡ None → pattern_asked attribute found ≡ None
+pattern-missing attribute found is = of-message attribute found ∙ ap (asked-of attribute) is ∙ asked-missing attribute
+
 -- the answer by whether there is what was asked for, and whether there is the message
 pub is-found : {F : Type 0} (env : Environment (Unit {0}) F) (id : Text) (attribute : Option Text) (has_pattern has_message : Bool) →
     has_pattern ≡ is_some (pattern_asked attribute (env.find id)) → has_message ≡ is_some (message_in (env.find id)) → IsFound env id attribute (answered has_pattern has_message)
 is-found env id attribute true any has is = sym has
 is-found env id attribute false true has is = (sym is, sym has)
 is-found env id attribute false false has is = (sym is, sym has)
+
+-- a message that a desk with functions has is that of the catalog
+pub calling-message : (catalog : Catalog) (functions : Option (List Text)) (made : FunctionDesk LanguagePlurals) (id : Text) → IsSomeAnd functions (λ names. CallsAs names catalog made) →
+    message_in (find (desk_ids made.desk) id) ≡ message_in ((catalog_environment catalog).find id)
+calling-message catalog None made id calls = absurd calls
+calling-message catalog (Some names) made id calls =
+    ap message_in (ap (λ env. env.find id) (calls [])) ∙ messages-same names catalog.settings.overriding catalog.sources id
 
 -- what a desk with functions finds is what the catalog has
 pub calling-found : (catalog : Catalog) (functions : Option (List Text)) (made : FunctionDesk LanguagePlurals) (id : Text) (attribute : Option Text) → IsSomeAnd functions (λ names. CallsAs names catalog made) →

@@ -2,7 +2,7 @@
 use Rattle.std.specs.Prelude.{◌≡◌, ℕ, Bool, true, false, List, [], Option, None, Some, IsNone, IsSome, IsSomeAnd, option_copied, string_bytes}
 use denote.Ref.{Bor}
 use Rattle.fluent_answers.specs.Answers.{pattern_asked}
-use Rattle.fluent_calls.specs.Functions.{Table}
+use Rattle.fluent_calls.specs.Functions.{IsUnanswered, Table}
 use Rattle.fluent_calls.specs.Gathering.{AreGathered}
 use Rattle.fluent_calls.specs.declared.desk.FunctionDesk.{FunctionDesk}
 use Rattle.fluent_plurals.specs.declared.plurals.LanguagePlurals.{LanguagePlurals}
@@ -13,7 +13,6 @@ use Rattle.fluent_meaning.specs.Ids.{Ids, Meaning, find}
 use Rattle.fluent_run.specs.DeskView.{arguments_view, message_reply}
 use Rattle.fluent_run.specs.Listing.{attribute_lines, message_lines}
 use Rattle.fluent_run.specs.ReplyView.{reply_view}
-use Rattle.fluent_value.specs.Args.{argument}
 use Rattle.fluent_value.specs.Value.{Value}
 use Rattle.fluent_value.specs.declared.args.FluentArgs.{FluentArgs}
 use Rattle.fluent_value.specs.declared.custom.NoCustom.{NoCustom}
@@ -69,14 +68,14 @@ module _ {F : Type 0} (env : Environment (Unit {0}) F) (id : Text) where
 abbrev pub IsReplyTo : Environment (Unit {0}) NoFunction → Text → Option (Bor Text) → FluentArgs NoCustom → Answer → Type 0
 IsReplyTo env id attribute arguments answer = IsReply env id (option_copied attribute) (arguments_view arguments) answer
 
--- what a message that may call functions gives for these arguments, or a call that the table of answers lacks
+-- what a message that may call functions gives for these arguments, or a call to which the table has no answer
 abbrev pub IsCalled : Environment (Unit {0}) ℕ → Text → Option Text → List (Text × Value (Unit {0})) → Table → Answer → Type 0
 IsCalled env id attribute args table answer.Memory = Unit {0}
 IsCalled env id attribute args table answer.NoMessage = Lacks env id attribute answer.NoMessage
 IsCalled env id attribute args table answer.NoPattern = Lacks env id attribute answer.NoPattern
 IsCalled env id attribute args table answer.Found = ⊥
 IsCalled env id attribute args table (answer.Reply reply) = message_reply env id attribute args ≡ Some (reply_view reply)
-IsCalled env id attribute args table (answer.Call call) = IsSome (pattern_asked attribute (env.find id)) × (argument (string_bytes call) table ≡ None)
+IsCalled env id attribute args table (answer.Call call) = IsSome (pattern_asked attribute (env.find id)) × IsUnanswered table (string_bytes call)
 IsCalled env id attribute args table (answer.Names text) = ⊥
 IsCalled env id attribute args table (answer.Report text) = ⊥
 
@@ -94,6 +93,11 @@ IsReplyOrCall env (Some calling) id attribute args table answer = IsCalled calli
 abbrev pub IsReplyOrCallTo : Environment (Unit {0}) NoFunction → (Table → Option (Environment (Unit {0}) ℕ)) → Text → Option (Bor Text) → FluentArgs NoCustom → FluentArgs NoCustom → Answer → Type 0
 IsReplyOrCallTo env calling id attribute arguments answers answer =
     IsReplyOrCall env (calling (arguments_view answers)) id (option_copied attribute) (arguments_view arguments) (arguments_view answers) answer
+
+-- the same without answers to calls
+abbrev pub IsWrittenBy : Environment (Unit {0}) NoFunction → (Table → Option (Environment (Unit {0}) ℕ)) → Text → Option (Bor Text) → FluentArgs NoCustom → Answer → Type 0
+IsWrittenBy env calling id attribute arguments answer =
+    IsReplyOrCall env (calling []) id (option_copied attribute) (arguments_view arguments) [] answer
 
 -- the calls that are gathered of a message that may call functions, with these arguments, unless memory ran out
 abbrev pub AreMet : Environment (Unit {0}) ℕ → Text → Option Text → List (Text × Value (Unit {0})) → Table → Answer → Type 0
@@ -201,6 +205,8 @@ IsAnswer env calling ids entries sources (question.Format id attribute arguments
 IsAnswer env calling ids entries sources (question.Call id attribute arguments answers spare) answer = IsReplyOrCallTo env calling id.now attribute arguments answers answer
 IsAnswer env calling ids entries sources (question.Calls id attribute arguments answers) answer = AreMetOrNoneBy env calling id.now attribute arguments answers answer
 IsAnswer env calling ids entries sources (question.Has id attribute) answer = IsFound env id.now (option_copied attribute) answer
+IsAnswer env calling ids entries sources (question.Find id attribute place) answer = IsFound env id.now (option_copied attribute) answer
+IsAnswer env calling ids entries sources (question.Write place id attribute arguments) answer = IsWrittenBy env calling id.now attribute arguments answer
 IsAnswer env calling ids entries sources question.Messages answer = AreMessages env entries answer
 IsAnswer env calling ids entries sources (question.Attributes id) answer = AreAttributes env id.now answer
 IsAnswer env calling ids entries sources (question.Variables id) answer = AreVariables ids id.now answer

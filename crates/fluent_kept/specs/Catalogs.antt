@@ -1,12 +1,15 @@
 -- What a bundle is made of, and what its parts are of that.
-use Rattle.std.specs.Prelude.{◌≡◌, ℕ, List, Option, None, IfSome, IsSomeAnd, String, map, option_and_then, option_map, vec_items, string_bytes}
+use Rattle.std.specs.Prelude.{◌≡◌, ℕ, List, Option, None, Some, All, IfSome, IsSomeAnd, String, map, option_and_then, option_map, vec_items, string_bytes}
 use Rattle.std.specs.declared.alloc.Global.{Global}
+use denote.Ref.{Bor}
 use Rattle.fluent_answers.specs.Sources.{Settings, environment_of, ids_of}
+use Rattle.fluent_ast.specs.declared.Message.{Message}
 use Rattle.fluent_calls.specs.CallsView.{names_of}
 use Rattle.fluent_calls.specs.declared.desk.FunctionDesk.{FunctionDesk}
 use Rattle.fluent_calls.specs.Functions.{Table, answered_at, calling_environment, no_answer}
 use Rattle.fluent_grammar.specs.Tiling.{runtime_tree}
 use Rattle.fluent_grammar.specs.Words.{Text}
+use Rattle.fluent_ids.specs.Found.{message_in}
 use Rattle.fluent_meaning.specs.Environment.{Environment}
 use Rattle.fluent_meaning.specs.Ids.{Ids, Meaning, entries_by_id}
 use Rattle.fluent_numerals.specs.Lookup.{Locale, locale_for}
@@ -19,17 +22,19 @@ use Rattle.fluent_run.specs.RunView.{no_text}
 use Rattle.fluent_tidy_laws.specs.Joined.{lists}
 use Rattle.fluent_value.specs.declared.function.NoFunction.{NoFunction}
 use Rattle.fluent_run.specs.declared.desk.Desk.{Desk}
+use Rattle.fluent_kept.specs.Found.{message_told}
 use Rattle.fluent_kept.specs.declared.desk.Desks.{Desks}
 use Rattle.fluent_kept.specs.declared.desk.Desks.TheVariants as desks
 use Rattle.fluent_kept.specs.declared.desk.KeptDesk.{KeptDesk}
 use Rattle.fluent_kept.specs.declared.resources.Resources.{Resources}
 use Rattle.fluent_kept.specs.declared.sources.Sources.{Sources}
 
--- the settings, the plural rules, and the texts of the sources
+-- the settings, the plural rules, the texts of the sources, and how many bytes of the machine's stack reading or an answer may take
 pub record Catalog : Type 0 where
   pub settings : Settings
   pub plurals : LanguagePlurals
   pub sources : List Text
+  pub stack : ℕ
   -- the names of the program's functions, if messages call any
   pub functions : Option (List Text)
 
@@ -45,7 +50,7 @@ abbrev pub names_in : Sources → Option (List Text)
 names_in s = option_map (λ names. map string_bytes (vec_items names)) s.functions
 
 abbrev pub catalog_of : Sources → Catalog
-catalog_of s = record { settings = settings_of s; plurals = s.plurals; sources = map string_bytes (vec_items s.texts); functions = names_in s }
+catalog_of s = record { settings = settings_of s; plurals = s.plurals; sources = map string_bytes (vec_items s.texts); stack = s.stack.bytes; functions = names_in s }
 
 -- what stays the same while the catalog is asked
 abbrev pub catalog_environment : Catalog → Environment (Unit {0}) NoFunction
@@ -85,6 +90,7 @@ pub record IsPlainOf (catalog : Catalog) (desk : Desk LanguagePlurals NoFunction
   pub environment : plain_environment desk ≡ catalog_environment catalog
   pub ids : desk_ids desk ≡ catalog_ids catalog
   pub entries : all_by_id desk.resources.now ≡ catalog_entries catalog
+  pub stack : desk.stack.bytes ≡ catalog.stack
 
 -- this does, of whatever catalog it was that was read
 abbrev pub IsPlainFor : Resources → Desk LanguagePlurals NoFunction → Type 0
@@ -106,16 +112,21 @@ CallsFor read names desk = (catalog : Catalog) → IsReadOf read catalog → Cal
 abbrev pub AreDesksOf : Catalog → Desks → Type 0
 AreDesksOf catalog (desks.Plain desk) = (catalog.functions ≡ None) × IsPlainOf catalog desk
 AreDesksOf catalog (desks.Calling desk plain) =
-    IsSomeAnd catalog.functions (λ names. CallsAs names catalog desk) × IfSome plain (IsPlainOf catalog)
+    IsSomeAnd catalog.functions (λ names. CallsAs names catalog desk) × ((desk.desk.stack.bytes ≡ catalog.stack) × IfSome plain (IsPlainOf catalog))
 
 -- these do, of whatever catalog it was that was read
 abbrev pub AreDesksFor : Resources → Desks → Type 0
 AreDesksFor read desks = (catalog : Catalog) → IsReadOf read catalog → AreDesksOf catalog desks
 
+-- this is the message of its id in the catalog
+abbrev pub IsMessageOf : Catalog → Bor (Message (Bor Text)) → Type 0
+IsMessageOf catalog m = message_in ((catalog_environment catalog).find (message_told m).id) ≡ Some (message_told m)
+
 -- this answers as the catalog does
 pub record IsDeskOf (desk : KeptDesk) (catalog : Catalog) : Type 0 where
   pub read : IsReadOf desk.read.now catalog
   pub desks : AreDesksOf catalog desk.desks
+  pub found : All (IsMessageOf catalog) (vec_items desk.found.messages)
 
 -- this does, of whatever catalog it was that was read
 pub record IsDeskFor (read : Resources) (desk : KeptDesk) : Type 0 where

@@ -6,6 +6,7 @@ ghost use Rattle.fluent_run.specs.ResourceIds.{all_by_id};
 ghost use Rattle.fluent_kept.specs.Catalogs.{AreDesksFor, CallsFor, ForIts, IsDeskFor, IsPlainFor, IsPlainOf, StaysDesk, StaysPlain, catalog_entries, catalog_environment, catalog_ids, catalog_of, plain_environment};
 ghost use Rattle.fluent_kept.specs.Answers.{AnswersAsIts, AreAttributes, AreCallsOf, AreMessages, AreMetBy, AreNone, AreVariables, IsCallOf, IsCalledTo, IsFormatOf, IsFoundBy, IsReplyTo, found};
 
+use crate::found::Found;
 use crate::loose::RawBox;
 use crate::question::{Answer, Question};
 use crate::resources::Resources;
@@ -22,7 +23,8 @@ use std::alloc::{AllocError, Global};
 #[derive(Drop)]
 pub(crate) struct KeptDesk<'r, 's> {
     read: &'r Resources<'s>,
-    desks: Desks<'r, 's>,
+    pub(crate) desks: Desks<'r, 's>,
+    pub(crate) found: Found<'r, 's>,
 }
 
 /// What answers from the ids of the messages and terms.
@@ -66,7 +68,8 @@ impl<'r, 's> KeptDesk<'r, 's> {
         ensures { IfOk result (IsDeskFor read.now) }
     {
         let desks = Desks::new(alloc, read)?;
-        Ok(KeptDesk { read, desks })
+        let found = Found::new(alloc);
+        Ok(KeptDesk { read, desks, found })
     }
 
     /// Makes what answers as if there were no functions, unless it is there, or memory runs out.
@@ -233,6 +236,17 @@ impl<'r, 's> KeptDesk<'r, 's> {
                 answers,
             } => self.calls(alloc, *id, *attribute, arguments, answers),
             Question::Has { id, attribute } => self.has(*id, *attribute),
+            Question::Find {
+                id,
+                attribute,
+                place,
+            } => self.find(*id, *attribute, place),
+            Question::Write {
+                place,
+                id,
+                attribute,
+                arguments,
+            } => self.write(alloc, *place, *id, *attribute, arguments),
             Question::Messages => {
                 self.make_plain(alloc);
                 self.messages(alloc)
@@ -299,7 +313,8 @@ fn function_desk<'r, 's>(
     read: &'r Resources<'s>,
     names: &'s [String],
 ) -> Result<FunctionDesk<'s, 'r, 's, LanguagePlurals>, AllocError>
-    ensures { IfOk result (CallsFor read.now names.now) }
+    ensures calls { IfOk result (CallsFor read.now names.now) }
+    ensures stack { IfOk result (λ made. made.desk.stack ≡ read.now.sources.now.stack) }
 {
     let sources = read.sources;
     let desk = FunctionDesk::new(
@@ -354,7 +369,7 @@ fn attributes_of(desk: &Desk<'_, '_, '_, LanguagePlurals>, alloc: Global, id: &s
 }
 
 /// What a message that may call functions gives for these arguments, with these answers to calls.
-fn called(
+pub(crate) fn called(
     made: &FunctionDesk<'_, '_, '_, LanguagePlurals>,
     alloc: Global,
     id: &str,

@@ -7,8 +7,10 @@
 
 mod bundle;
 mod desk;
+mod found;
 mod handle;
 mod loose;
+mod patterns;
 mod question;
 mod resources;
 mod shelf;

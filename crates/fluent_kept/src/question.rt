@@ -37,6 +37,21 @@ pub enum Question<'a> {
         id: &'a str,
         attribute: Option<&'a str>,
     },
+    /// The same, and at which place [`Question::Write`] finds the message from then on. If memory
+    /// runs out, it is the place of none.
+    Find {
+        id: &'a str,
+        attribute: Option<&'a str>,
+        place: &'a Cell<usize>,
+    },
+    /// What a message gives for these arguments, without answers to calls of functions. It is found
+    /// at its place, and by its id if another message or none is there.
+    Write {
+        place: usize,
+        id: &'a str,
+        attribute: Option<&'a str>,
+        arguments: FluentArgs<'a, NoCustom>,
+    },
     /// The ids of the messages.
     Messages,
     /// The names of a message's attributes.

@@ -9,8 +9,8 @@ use Rattle.fluent_run.specs.DeskView.{environment_from, ids_added}
 use Rattle.fluent_kept.proofs.Environments.{environment-same}
 use Rattle.fluent_kept.proofs.desk.function_desk.Goals as goal
 
-pub returns : goal.returns
-returns c = λ catalog is table.
+pub returns-clause-calls : goal.returns-clause-calls
+returns-clause-calls c = λ catalog is table.
     let read = c.args.read.now in
     let made = c.in_ok-desk.desk in
     let settings = c.settings.ensures ∙ ap (λ k. k.settings) is.sources in
@@ -19,6 +19,9 @@ returns c = λ catalog is table.
     ap (ids_added c.settings.result.overriding) c.deref.ensures.value
     ∙ ap (λ s. ids_added s.overriding (vec_items read.list)) settings
     ∙ ids-read catalog.settings.overriding (vec_items read.list) catalog.sources is.entries in
-    environment-same (answered_at no_answer (names_of made) table) _ _ _ _ made.desk catalog c.in_ok-desk.ensures.desk settings (ap (λ k. k.plurals) is.sources)
+    environment-same (answered_at no_answer (names_of made) table) _ _ _ _ _ made.desk catalog c.in_ok-desk.ensures.desk settings (ap (λ k. k.plurals) is.sources)
     ∙ ap (λ x. environment_from plurals_by (λ _ S text. text) (with_functions names x) catalog.settings catalog.plurals (answered_at no_answer (names_of made) table)) ids
     ∙ ap (λ x. environment_from plurals_by (λ _ S text. text) (with_functions names (ids_of catalog.settings.overriding catalog.sources)) catalog.settings catalog.plurals (answered_at no_answer x table)) c.in_ok-desk.ensures.names
+
+pub returns-clause-stack : goal.returns-clause-stack
+returns-clause-stack c = c.in_ok-desk.ensures.desk.stack

@@ -20,8 +20,9 @@ returns c = λ catalog is.
     ∙ ids-read catalog.settings.overriding (vec_items read.list) catalog.sources is.entries in
     record {
       environment =
-          environment-same gives_error _ _ _ _ desk catalog made settings (ap (λ k. k.plurals) is.sources)
+          environment-same gives_error _ _ _ _ _ desk catalog made settings (ap (λ k. k.plurals) is.sources)
           ∙ ap (λ x. environment_from plurals_by (λ _ S text. text) x catalog.settings catalog.plurals gives_error) ids;
       ids = made.ids ∙ ids;
       entries = ap (λ rs. all_by_id rs) (made.resources ∙ c.deref.ensures.value) ∙ all_by_id-read (vec_items read.list) catalog.sources is.entries;
+      stack = ap (λ b. b.bytes) made.stack ∙ ap (λ k. k.stack) is.sources;
     }
