@@ -17,11 +17,10 @@ from . import _library as c
 from ._answers import Answer, resolver_errors
 from ._errors import FluentError, FluentWarning, MissingMessageError, SourceError, UnknownLocaleError
 from ._extension import calls_type
-from ._functions import Answers, Called, Functions, called_of, each_call, functions_of, is_rewritten, told_apart, with_dates
+from ._functions import Answers, Called, Functions, called_of, each_call, functions_of, rewriting_of, told_apart, with_dates
 from ._kept import Asking, Kept, kept_of, read
 from ._numbers import FluentNumber
 from ._reports import Sources, source_errors, too_deep
-from ._rewriting import rewritten
 from ._values import Formatter, NeedsShowing, arguments_of, encoded
 
 Paths = Union[str, "os.PathLike[str]", Iterable[Union[str, "os.PathLike[str]"]]]
@@ -137,6 +136,7 @@ class Bundle:
         self._spare: list[_Texts] = []
         self._functions = with_dates(functions_of(functions), (text for _, text in named))
         self._called = called_of(self._functions, shows)
+        self._rewriting = rewriting_of(self._functions, shows is not None)
         if formatter is str and numbers and tag:
             formatter = _dates.formatter_of(tag)
         self._formatter, self._overriding, self._stack = formatter, bool(overriding), _budget(stack)
@@ -150,9 +150,8 @@ class Bundle:
             raise UnknownLocaleError(f"the locale {locale!r} is no tag of a language")
         if made != c.READ:
             raise MemoryError("memory ran out")
-        if not self._is_rewritten():
-            # The texts are those that the other bundles have.
-            named = [(name, text) for (name, _), text in zip(named, kept.texts)]
+        # The texts are those that the other bundles have.
+        named = [(name, text) for (name, _), text in zip(named, kept.texts)]
         # The sources; whether nobody asked for `errors` yet; and whether the next answer warns of them.
         self._sources: Sources = named
         self._is_unread = True
@@ -169,17 +168,10 @@ class Bundle:
     def _new(self, named: Sources, tag: bytes) -> tuple[int, Kept]:
         """What the library keeps of the sources, and its status."""
         functions = [name.encode() for name in self._called]
-        asking = Asking(tag, self._isolating, self._overriding, self._numbers, self._stack, functions)
-        return kept_of([self._as_called(text) for _, text in named], asking)
-
-    def _as_called(self, text: bytes) -> bytes:
-        """A source in which functions have the names that the library calls."""
-        if not self._is_rewritten():
-            return text
-        return rewritten(text.decode(), self._functions, self._called.shows is not None).encode()
-
-    def _is_rewritten(self) -> bool:
-        return is_rewritten(self._functions, self._called.shows is not None)
+        asking = Asking(
+            tag, self._isolating, self._overriding, self._numbers, self._stack, functions, self._rewriting
+        )
+        return kept_of([text for _, text in named], asking)
 
     def _that_shows(self) -> Bundle:
         """A bundle of the same messages that shows numbers by all their options, which is made if it isn't there."""
@@ -403,10 +395,17 @@ class Bundle:
             return list(self._errors)
 
     def _report(self) -> list[str]:
-        listed, lines = self._report_as_is() if self._is_rewritten() else self._list(c.library.fluent_bundle_errors)
-        if listed != c.READ:
-            self._refuse(listed, "the report")
-        return lines
+        """The lines of what is wrong with the sources. Bundles that share what is kept find it once."""
+        kept = self._kept
+        if kept.report is None:
+            listed, lines = self._list(c.library.fluent_bundle_errors)
+            # A source that is rewritten has the same errors, at other places.
+            if self._rewriting and any(line.startswith("source ") for line in lines):
+                listed, lines = self._report_as_is()
+            if listed != c.READ:
+                self._refuse(listed, "the report")
+            kept.report = lines
+        return kept.report
 
     def _report_as_is(self) -> tuple[int, list[str]]:
         """The status of the report and its lines, with the places of the sources before they are rewritten."""

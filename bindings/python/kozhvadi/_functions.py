@@ -14,7 +14,7 @@ from . import _dates
 from . import _library as c
 from ._errors import ResolverError, raised_by
 from ._numbers import FluentNumber, NumberFormatOptions, fluent_number
-from ._rewriting import IS_OWN, IS_SHOWN, SHOWN
+from ._rewriting import IS_OWN, IS_SHOWN, SHOWN, Rewriting
 from ._values import NO_ARGUMENTS, Formatter, NeedsShowing, encoded, kind_and_text
 
 Functions = Mapping[str, Callable[..., Any]]
@@ -65,9 +65,11 @@ def with_dates(functions: dict[str, Callable[..., Any]], texts: Iterable[bytes])
     return {**functions, "DATETIME": _dates.called}
 
 
-def is_rewritten(functions: Functions, shows: bool) -> bool:
-    """Whether sources are rewritten, so that a call that is shown has another name than one that is an argument."""
-    return shows or "NUMBER" in functions or functions.get("DATETIME") is _dates.called
+def rewriting_of(functions: Functions, shows: bool) -> Rewriting | None:
+    """How sources are rewritten, if they are: then a call that is shown has another name than one that is an argument."""
+    if shows or "NUMBER" in functions or functions.get("DATETIME") is _dates.called:
+        return Rewriting(frozenset(functions), shows)
+    return None
 
 
 class Called(dict[str, Callable[..., Any]]):
@@ -80,7 +82,7 @@ def called_of(functions: Functions, shows: Callable[[FluentNumber], str] | None 
     """Functions by the names that rewritten sources call. With `shows` values are shown by calls."""
     own = {f"NUMBER{IS_OWN}" if name == "NUMBER" else name: function for name, function in functions.items()}
     called = Called(own)
-    if is_rewritten(functions, shows is not None):
+    if rewriting_of(functions, shows is not None):
         called.update({f"{name}{IS_SHOWN}": function for name, function in functions.items()})
     if shows:
         called.shows = shows

@@ -11,28 +11,46 @@ import weakref
 
 from . import _library as c
 from ._locks import new_lock
+from ._rewriting import Rewriting
 
 
 class Asking:
     """How a bundle asks the library: in which way it reads the sources, and what it writes."""
 
     def __init__(
-        self, tag: bytes, isolating: bool, overriding: bool, numbers: bool, stack: int, functions: list[bytes]
+        self,
+        tag: bytes,
+        isolating: bool,
+        overriding: bool,
+        numbers: bool,
+        stack: int,
+        functions: list[bytes],
+        rewriting: Rewriting | None = None,
     ) -> None:
+        """Sources are rewritten before the library reads them, if there is a `rewriting`."""
         self.tag, self.isolating, self.overriding, self.numbers = tag, isolating, overriding, numbers
-        self.stack, self.functions = stack, functions
+        self.stack, self.functions, self.rewriting = stack, functions, rewriting
 
     def key(self, texts: list[bytes]) -> object:
         """What two bundles have in common that share what the library keeps."""
-        options = (self.tag, self.isolating, self.overriding, self.numbers, self.stack)
+        options = (self.tag, self.isolating, self.overriding, self.numbers, self.stack, self.rewriting)
         return threading.get_ident(), options, tuple(self.functions), tuple(texts)
+
+    def as_read(self, texts: list[bytes]) -> list[bytes]:
+        """Sources as the library reads them."""
+        return [self.rewriting.of(text) for text in texts] if self.rewriting else texts
 
 
 class Kept:
-    """A bundle of the library, which is freed when nothing refers to it any more, or none. It is asked under the lock."""
+    """A bundle of the library, which is freed when nothing refers to it any more, or none. It is asked under the lock.
+
+    `texts` are the sources, before they are rewritten. `report` has the lines of what is wrong with them, once a bundle
+    asked for it.
+    """
 
     def __init__(self, texts: list[bytes]) -> None:
         self.texts = texts
+        self.report: list[str] | None = None
         self.handle, self.lock = c.FluentBundle(), new_lock()
         weakref.finalize(self, c.library.fluent_bundle_free, self.handle)
 
@@ -60,7 +78,7 @@ def kept_of(texts: list[bytes], asking: Asking) -> tuple[int, Kept]:
 
 def read(texts: list[bytes], asking: Asking, handle: c.FluentBundle) -> int:
     """Puts a bundle of sources into the handle, and gives the status of the library."""
-    array, count = c.sources(texts)
+    array, count = c.sources(asking.as_read(texts))
     tag, made = asking.tag, 0
     if asking.functions:
         options = c.FluentBundleOptions(

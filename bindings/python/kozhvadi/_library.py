@@ -112,6 +112,18 @@ class FluentArgument(ctypes.Structure):
     ]
 
 
+class FluentPattern(ctypes.Structure):
+    """What the extension passes to the library."""
+
+    _fields_ = [
+        ("id", ctypes.c_char_p),
+        ("id_len", ctypes.c_size_t),
+        ("attribute", ctypes.c_char_p),
+        ("attribute_len", ctypes.c_size_t),
+        ("number", ctypes.c_size_t),
+    ]
+
+
 class FluentDate(ctypes.Structure):
     _fields_ = [
         ("offset", ctypes.c_int32),

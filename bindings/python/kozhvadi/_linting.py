@@ -14,6 +14,9 @@ from ._values import encoded
 
 Files = Union[Mapping[str, str], Iterable[tuple[str, str]]]
 
+# Files for the library, and how many.
+_Array = tuple["ctypes.Array[c.FluentFile]", int]
+
 # The codes of findings of what can't be read.
 UNREAD = frozenset({"syntax", "byte-order-mark"})
 
@@ -109,18 +112,31 @@ def lint(
     names, name_count = c.sources([b"DATETIME", *(encoded(name, "the function", name) for name in functions)])
     tag = b"" if locale is None else encoded(locale, "the locale")
     options = c.FluentLintOptions(names, name_count, tag, len(tag), bool(notes), bool(strict))
-    given, compared = _files(files, "files"), _files(reference, "reference")
+    lines, has_errors = _lines(_files(files, "files"), _files(reference, "reference"), options)
+    return _report(lines, int(has_errors))
+
+
+def findings_of(sources: list[tuple[str, bytes]]) -> list[Finding]:
+    """What `lint` finds in texts in UTF-8, which aren't copied. Raises `MemoryError` if one nests too deep."""
+    names, name_count = c.sources([b"DATETIME"])
+    options = c.FluentLintOptions(names, name_count, b"", 0, False, False)
+    given = _array([(name.encode(), text) for name, text in sources])
+    return _report(_lines(given, _array([]), options)[0], 0).findings
+
+
+def _lines(given: _Array, compared: _Array, options: c.FluentLintOptions) -> tuple[list[str], bool]:
+    """The lines of the library's report, and whether there is an error."""
     text = c.FluentText()
     try:
         status = c.library.fluent_lint(*given, *compared, options, text)
         if status == c.UNKNOWN_LOCALE:
-            raise UnknownLocaleError(f"the locale {locale!r} is no tag of a language")
+            tag = options.locale.decode()
+            raise UnknownLocaleError(f"the locale {tag!r} is no tag of a language")
         if status not in (c.READ, c.HAS_ERRORS):
             refuse(status, "the report")
-        lines = c.lines_of(text)
+        return c.lines_of(text), status == c.HAS_ERRORS
     finally:
         c.library.fluent_free_text(text)
-    return _report(lines, int(status == c.HAS_ERRORS))
 
 
 def tidy(source: str) -> str:
@@ -154,15 +170,18 @@ def _damage(source: str) -> str:
     return next(finding.text for finding in lint({"": plain}).findings if finding.code in UNREAD)
 
 
-def _files(files: Files, what: str) -> tuple["ctypes.Array[c.FluentFile]", int]:
-    """Files in an array, which has a place even if there are none."""
+def _files(files: Files, what: str) -> _Array:
     if isinstance(files, (str, bytes)):
         raise TypeError(f"{what} has names and texts, and isn't one: {type(files).__name__}")
-    pairs = list(files.items() if isinstance(files, Mapping) else files)
-    given = []
-    for name, text in pairs:
-        key, data = encoded(name, "the name of a file"), encoded(text, "the text of the file", name)
-        given.append(c.FluentFile(key, len(key), data, len(data)))
+    pairs = files.items() if isinstance(files, Mapping) else files
+    return _array(
+        [(encoded(name, "the name of a file"), encoded(text, "the text of the file", name)) for name, text in pairs]
+    )
+
+
+def _array(pairs: list[tuple[bytes, bytes]]) -> _Array:
+    """Files in an array, which has a place even if there are none."""
+    given = [c.FluentFile(name, len(name), text, len(text)) for name, text in pairs]
     return (c.FluentFile * max(len(given), 1))(*given), len(given)
 
 

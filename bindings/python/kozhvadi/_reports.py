@@ -5,7 +5,7 @@ from __future__ import annotations
 from collections.abc import Collection
 
 from ._errors import SourceError
-from ._linting import UNREAD, Finding, lint
+from ._linting import UNREAD, Finding, findings_of
 
 # The names of sources, and their texts in UTF-8.
 Sources = list[tuple[str, bytes]]
@@ -34,7 +34,7 @@ def too_deep(name: str, line: int | None, stack: int) -> SourceError:
 def _findings(sources: Sources) -> list[Finding]:
     """What `lint` finds. It is nothing if a source nests too deep for that: a bundle may have more stack."""
     try:
-        return lint([(name, text.decode()) for name, text in sources]).findings
+        return findings_of(sources)
     except MemoryError:
         return []
 

@@ -7,6 +7,7 @@ from __future__ import annotations
 
 import re
 from collections.abc import Container
+from typing import NamedTuple
 
 # What follows the name of a function whose value is shown, and that of the program's own `NUMBER`.
 IS_SHOWN, IS_OWN = "-SHOWN", "-OWN"
@@ -29,6 +30,17 @@ _CALL = re.compile(r"[ \r\n]*([A-Z][A-Z0-9_-]*)(?=[ \r\n]*\()")
 _IN_ARGUMENTS = re.compile(r"\"(?:\\.|[^\"\\\n])*\"?|[(){}]")
 
 _ENDS = re.compile(r"[ \r\n]*\}")
+
+
+class Rewriting(NamedTuple):
+    """How sources are rewritten: the names of the program's functions, and whether each value that is shown is a call."""
+
+    own: frozenset[str]
+    shows: bool
+
+    def of(self, text: bytes) -> bytes:
+        """A source, rewritten."""
+        return rewritten(text.decode(), self.own, self.shows).encode()
 
 
 def rewritten(source: str, own: Container[str], shows: bool) -> str:

@@ -2,6 +2,7 @@
 
 import json
 import os
+import re
 import tempfile
 import threading
 import unittest
@@ -323,17 +324,35 @@ class PageTest(unittest.TestCase):
         """Of 2,000 messages those near the caret are shown, and of the lines those that are seen are laid out."""
         source = "".join(f"# Of {n}.\nmessage-{n} = Text {n} {{ $name }} {'long ' * 40}\n\n" for n in range(2_000))
         self.begin(source.replace("{ $name } long", "{ -none } long", 1))
+        self.assertEqual(self.texts("u.error"), ["-none"])
+        self.assertIn("1800 more messages", self.texts(".nothing")[0])
+        self.go_through(source, "message-1500")
+
+    @unittest.skipUnless(os.environ.get("CORPUS"), "CORPUS names no folder of files")
+    def test_the_longest_file_of_a_corpus(self):
+        source = max((path.read_text(encoding="utf-8") for path in Path(os.environ["CORPUS"]).rglob("*.ftl")), key=len)
+        self.begin(source)
+        ids = re.findall(r"^([A-Za-z][\w-]*) *=", source, re.M)
+        self.go_through(source, ids[len(ids) // 2])
+        # A link opens it again.
+        self.browser.size(1280, 900)
+        self.wait("state.shown === state.asked")
+        self.browser.run("keep()")
+        fragment = self.browser.run("location.hash")
+        self.begin("other = x\n", fragment=fragment)
+        self.assertEqual(self.browser.run("$('source').value.length"), len(f"{source}quick".encode("utf-16-le")) // 2)
+
+    def go_through(self, source, id):
+        """Goes to a message of a file that the page shows, types there, scrolls, and makes the window small."""
         self.assertTrue(self.browser.run("document.querySelector('.editor').classList.contains('long')"))
         lines = "document.querySelector('.stack pre').children.length"
         self.assertLess(self.browser.run(lines), 100)
         # The page doesn't scroll: each side does.
         self.assertLessEqual(self.browser.run("document.documentElement.scrollHeight"), 900)
-        self.assertEqual(self.texts("u.error"), ["-none"])
-        self.assertIn("1800 more messages", self.texts(".nothing")[0])
-        place = source.index("message-1500 ")
+        place = re.search(rf"^{id} *=", source, re.M).start()
         self.browser.run(f"select($('source'), {place}, {place})")
-        self.wait("[...document.querySelectorAll('.stack pre > div')].some((each) => each.textContent.startsWith('message-1500 '))")
-        self.wait("document.querySelector('.message.current')?.dataset.id === 'message-1500'")
+        self.wait(f"[...document.querySelectorAll('.stack pre > div')].some((each) => each.textContent.startsWith('{id} '))")
+        self.wait(f"document.querySelector('.message.current')?.dataset.id === '{id}'")
         # The line that is seen is where the typed one is: its number in lines, from the top of the field.
         top = "Math.round(document.querySelector('.stack pre').getBoundingClientRect().top - $('source').getBoundingClientRect().top + $('source').scrollTop)"
         number = self.browser.run("Number(document.querySelector('.stack pre').style.counterReset.split(' ')[1])")
@@ -341,10 +360,10 @@ class PageTest(unittest.TestCase):
         self.assertEqual(self.browser.run("document.querySelector('.stack pre').firstChild.textContent.trimEnd()"), source.split("\n")[number].rstrip())
         for letter in "quick":
             self.browser.type(letter)
-        self.wait("document.querySelector('.message.current')?.dataset.id === 'quickmessage-1500'")
+        self.wait(f"document.querySelector('.message.current')?.dataset.id === 'quick{id}'")
         self.assertLess(self.browser.run(lines), 100)
         self.browser.run("$('source').scrollTo(300, 0)")
-        self.wait("document.querySelector('.stack pre').firstChild.textContent === '# Of 0.\\n'")
+        self.wait(f"document.querySelector('.stack pre').firstChild.textContent.trimEnd() === {json.dumps(source.partition(chr(10))[0].rstrip())}")
         self.assertIn("translate(-300px", self.browser.run("document.querySelector('.stack pre').style.transform"))
         self.browser.size(400, 800)
         self.assertLessEqual(self.browser.run("document.documentElement.scrollWidth"), 400)

@@ -35,6 +35,20 @@ class CallsTest(unittest.TestCase):
         ]:
             self.assertEqual(self.bundle.format("a", x=value), (shown, []))
 
+    def test_texts_of_any_length(self):
+        for length in (0, 1, 255, 256, 257, 511, 512, 513, 5000):
+            for _ in range(2):
+                self.assertEqual(self.bundle.format("a", x="x" * length), ("x" * length, []))
+
+    def test_a_message_that_calls_functions_is_asked_again(self):
+        source = "a = { F() } { $x }\n    .t = T { $x }\nb = B { $x }\n"
+        bundle = Bundle(source, isolating=False, functions={"F": lambda: "f"})
+        self.addCleanup(bundle.close)
+        for number in range(3):
+            self.assertEqual(bundle.format("a", x=number), (f"f {number}", []))
+            self.assertEqual(bundle.format("a", "t", x=number), (f"T {number}", []))
+            self.assertEqual(bundle.format("b", x=number), (f"B {number}", []))
+
     def test_more_arguments_than_are_on_the_stack(self):
         for count in range(21):
             given = {f"v{number}": [number, f"t{number}", Decimal(number)][number % 3] for number in range(count)}

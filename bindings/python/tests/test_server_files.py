@@ -79,6 +79,16 @@ class LinksTest(WorkspaceCase):
             self.client.open(uri, self.SOURCE)
             self.assert_one_file(uri)
 
+    def test_names_with_signs(self):
+        self.client.start(self.root)
+        for name in ("a b", "a%b", "a%25b", "a#b", "a?b", "\U0001f44d", "a:b", "a+b", "a&b"):
+            with self.subTest(name):
+                path = self.file(f"{name}/pl/{name}.ftl", self.SOURCE)
+                uri = self.client.open(path)
+                self.assert_one_file(uri)
+                self.client.tell("textDocument/didClose", textDocument={"uri": uri})
+                path.unlink()
+
     def test_names_that_arent_utf8(self):
         self.client.start(self.root)
         paths = [self.file(os.fsdecode(name), self.SOURCE) for name in (b"\xfe/de.ftl", b"\xff/de.ftl")]

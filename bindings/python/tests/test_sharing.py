@@ -9,14 +9,14 @@ from kozhvadi import Bundle, FluentError
 
 SOURCE = "a = { $n } files\nb = Text\n"
 
-# The memory of ten bundles over a source of 1 MB, in MB, and with how many it began.
+# The memory of ten bundles over a source of 1 MB that begins with a message, in MB, and with how many it began.
 MEASURED = """
 import sys
 from kozhvadi import Bundle
 def peak():
     with open("/proc/self/status") as status:
         return next(int(line.split()[1]) for line in status if line.startswith("VmHWM:")) / 1000
-source = "".join(f"key-{n} = The text of the message {n} is this one, with {{ $name }}\\n" for n in range(15_000))
+source = sys.argv[1] + "".join(f"key-{n} = The text of the message {n} is this one, with {{ $name }}\\n" for n in range(15_000))
 before = peak()
 bundles = [Bundle(source, locale="en", isolating=False) for _ in range(10)]
 texts = {bundle.format("key-7", name="it").text for bundle in bundles}
@@ -38,6 +38,17 @@ class SharingTest(unittest.TestCase):
             Bundle([SOURCE, ""], locale="en"),
         ):
             self.assertIsNot(other._kept, bundle._kept)
+
+    def test_sources_that_are_rewritten_are_shared(self):
+        source = "a = { DATETIME($day) } { $n }\nb\n"
+        first, second = Bundle(source, locale="en"), Bundle([source], locale="en")
+        self.assertIs(first._kept, second._kept)
+        self.assertIs(first._sources[0][1], second._sources[0][1])
+        self.assertEqual([str(error) for error in first.errors], [str(error) for error in second.errors])
+        self.assertEqual((first.errors[0].line, first.errors[0].column), (2, 2))
+        names = (["NUMBER"], ["NUMBER", "F"], ["F"])
+        own = [Bundle(SOURCE, functions=dict.fromkeys(each, str)) for each in names]
+        self.assertEqual(len({id(bundle._kept) for bundle in own}), 3)
 
     def test_functions_are_those_of_the_bundle(self):
         first, second = (Bundle("a = { F() }", isolating=False, functions={"F": lambda n=n: n}) for n in (1, 2))
@@ -65,11 +76,12 @@ class SharingTest(unittest.TestCase):
 
     @unittest.skipUnless(sys.platform == "linux", "there is no /proc")
     def test_ten_take_the_memory_of_one(self):
-        run = subprocess.run([sys.executable, "-c", MEASURED], capture_output=True, text=True, check=True)
-        length, megabytes, texts = run.stdout.split(" ", 2)
-        self.assertGreater(int(length), 1_000_000)
-        self.assertLess(float(megabytes), 20)
-        self.assertEqual(texts, "{'The text of the message 7 is this one, with it'}\n")
+        for message in ("", "day = { DATETIME($day) }\n"):
+            run = subprocess.run([sys.executable, "-c", MEASURED, message], capture_output=True, text=True, check=True)
+            length, megabytes, texts = run.stdout.split(" ", 2)
+            self.assertGreater(int(length), 1_000_000)
+            self.assertLess(float(megabytes), 20, message)
+            self.assertEqual(texts, "{'The text of the message 7 is this one, with it'}\n")
 
 
 if __name__ == "__main__":

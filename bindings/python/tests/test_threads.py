@@ -6,7 +6,7 @@ import threading
 import unittest
 import warnings
 
-from kozhvadi import Bundle, FluentWarning, Localization
+from kozhvadi import Bundle, FluentWarning, Localization, tidy
 from kozhvadi.runtime import AbstractResourceLoader, FluentBundle, FluentLocalization, FluentResource
 
 
@@ -109,6 +109,24 @@ class ThreadsTest(unittest.TestCase):
                 warnings.simplefilter("always")
                 self.assertEqual([answer.text for answer in in_threads(lambda: bundle.format("a"))], ["A"] * 8)
             self.assertEqual([each.category for each in told], [FluentWarning])
+
+    def test_others_go_on_while_the_library_works(self):
+        """A call of the library lets go of Python's lock: a thread that counts goes on."""
+        source = "".join(f"a{number} = {{ $x }}\n" for number in range(100_000))
+        steps, ends = [], threading.Event()
+
+        def counts():
+            while not ends.wait(0.001):
+                steps.append(len(steps))
+
+        thread = threading.Thread(target=counts)
+        thread.start()
+        before = len(steps)
+        self.assertEqual(tidy(source), source)
+        counted = len(steps) - before
+        ends.set()
+        thread.join()
+        self.assertGreater(counted, 10)
 
     def test_a_process_forks_while_threads_make_bundles(self):
         texts, ended = Localization({"en": "a = A\n"}), threading.Event()

@@ -123,7 +123,7 @@ class Params:
 
     def __getitem__(self, name: str) -> Params:
         if not isinstance(self.value, dict) or name not in self.value:
-            raise Refused(INVALID_PARAMS, f"{self._name} have no {name!r}")
+            raise Refused(INVALID_PARAMS, f"there is no {name!r} in {self._name}")
         return Params(self.value[name], repr(name))
 
     def get(self, name: str) -> Params:
