@@ -71,6 +71,11 @@ installs() {
         kozhvadi/install.sh --remove "$room/prefix of mine" && [ -z "$(find "$room/prefix of mine" -type f)" ]
 }
 
+# The pages on the command, each in a folder of its own.
+command_pages() {
+    (typed command/command-line.md) && (typed command/finding-mistakes.md) && (typed command/project.md)
+}
+
 damage_is_noticed() {
     cp -R 'a stranger/kozhvadi' damaged && echo x >>damaged/include/fluent_c.h && ! damaged/install.sh "$room/nowhere" &&
         [ ! -e "$room/nowhere" ]
@@ -138,10 +143,20 @@ CMAKE
     [ "$(echo b | env -i LANG=de cpp/built/notes "$doc/examples/notes" | tail -n 1)" = 'Auf Wiedersehen, friend.' ]
 }
 
-# The program of the page for other languages, over the shared library.
+# The program of the page for other languages, and the example, over the shared library.
 lua_program() {
+    local library=$room/home/.local/lib/libfluent_c.so
     sed '1,/^```lua$/d;/^```$/,$d' home/.local/share/doc/kozhvadi/bindings/ffi/README.md >first.lua &&
-        [ "$(luajit first.lua "$room/home/.local/lib/libfluent_c.so")" = 'Jane has one message.' ]
+        [ "$(luajit first.lua "$library")" = 'Jane has one message.' ] &&
+        luajit home/.local/share/doc/kozhvadi/examples/inbox.lua "$library" | diff "$root/bindings/ffi/inbox.expected" -
+}
+
+# The example for Go, with the line that the page adds to it.
+go_program() {
+    mkdir go && sed 's|^// #include|// #cgo pkg-config: fluent_c\n&|' home/.local/share/doc/kozhvadi/examples/inbox.go >go/inbox.go &&
+        cd go || return
+    export PKG_CONFIG_PATH=$room/home/.local/lib/pkgconfig GO111MODULE=off GOCACHE=$room/go/cache
+    go run inbox.go | diff "$root/bindings/ffi/inbox.expected" -
 }
 
 exports_the_headers_alone() {
@@ -242,12 +257,13 @@ step_with tar 'ftl answers' answers
 step_with tar 'the man page and the completions have each command and option' man_page_lists_commands
 step_with bash 'bash completes' completes
 step_with tar 'it installs and is removed' installs
-step_with python3 'the page on the command line shows what ftl prints' typed command/command-line.md
+step_with python3 'the pages on the command, on mistakes and on a project show what ftl prints' command_pages
 step_with tar 'a damaged release is not installed' damage_is_noticed
 step_with python3 'the links of its pages lead somewhere' links_lead_somewhere
 step_with 'cc pkg-config python3' 'the first program in C does what its page says' c_program
 step_with 'c++ cmake pkg-config python3' 'the first program in C++ does what its page says, and CMake finds the library' cpp_program
-step_with luajit 'a program for LuaJIT calls it by handles' lua_program
+step_with luajit 'programs for LuaJIT call it by handles' lua_program
+step_with 'go cc pkg-config' 'the example for Go calls it by handles' go_program
 step_with nm 'the shared library gives out the headers alone' exports_the_headers_alone
 step_with python3 'pip installs the wheel, and a program uses it' python_program
 step_with python3 'the first program in Python does what its page says' python_page

@@ -19,7 +19,7 @@ tools/cldr.txt; crates.txt is read alike in Python and in shell; the library for
 have the numbers, structs and calls of its header; the library and the package for Python know the same of the
 functions that come with the library; each file that names its interpreter can be run, and each edit that must fail
 applies; the counts of crates and functions in the pages on proofs are those of the sources, and those of lines nearly; the figures that a file of
-results has are those of the pages; and each law, function and clause that a row of `proved.md` names is in the row's
+results has are those of the pages; each test that the page on validation names is there; and each law, function and clause that a row of `proved.md` names is in the row's
 crates.
 
 Prints what isn't so, then how many of these checks passed and failed, and ends with 1 if one failed. The calls of shell
@@ -62,7 +62,7 @@ PAGES = [page for files in ('*.md', 'docs/**/*.md', 'bindings/**/*.md', 'crates/
 SOURCES = sorted(ROOT.glob('crates/*/src/**/*.rt'))
 # Crates of rows and examples: nobody calls them.
 PRIVATE = re.compile(r'^(example|rows_|all_rows)')
-LONGEST_CLAUSE, LONG_CLAUSE, LONG_CLAUSES = 200, 120, 33
+LONGEST_CLAUSE, LONG_CLAUSE, LONG_CLAUSES = 200, 120, 36
 # Where all codes of findings are listed, and what of each match are codes.
 CODES = {
     'docs/reference/lint.md': r'^\| (`[a-z`, -]+`) \| (?:error|warning|note) \|',
@@ -626,6 +626,16 @@ def wrong_figures():
             yield f'{place_of(page)}: {said[1]} is {figure:,} in {file}'
 
 
+def unknown_tests():
+    """Tests that a page names, and no file of tests has."""
+    page = ROOT / 'docs/inside/validation.md'
+    tests = {name for path in ROOT.glob('bindings/python/tests/*.py') for name in re.findall(r'def (test_\w+)\(', path.read_text())}
+    for number, line in enumerate(page.read_text().split('\n'), 1):
+        for name in re.findall(r'`(test_\w+)`', line):
+            if name not in tests:
+                yield f'{place_of(page, number)}: there is no test {name}'
+
+
 def declared(crates):
     """The functions of these crates, and all words of theirs that a row may name: types, traits, clauses and definitions."""
     folders = [ROOT / 'crates' / crate for crate in crates]
@@ -662,7 +672,7 @@ def checks():
         yield from (wrong_quotes, types_without_examples, wrong_links, pages_without_release, wide_prose, long_readme, long_cells, figures_without_source, wrong_words,
                     wrong_comments, wide_comments,
                     silent_calls, long_clauses, other_versions, other_codes, other_cldr, other_readers, other_interfaces,
-                    other_functions, stale_edits, locked_scripts, wrong_counts, wrong_lines, wrong_figures, wrong_rows)
+                    other_functions, stale_edits, locked_scripts, wrong_counts, wrong_lines, wrong_figures, unknown_tests, wrong_rows)
     if ARGUMENTS.sources:
         return
     if PROGRAM.exists():
