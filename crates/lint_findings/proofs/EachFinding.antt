@@ -1,4 +1,4 @@
--- What each finding says is so: those of references, and those of repeated variants.
+-- What each finding says is so: those of references, of repeated variants, and of unused terms.
 use Rattle.std.proofs.Common.{◌≡◌, ◌∙◌, ℕ, ◌==◌, Bool, true, false, if◌then◌else◌, List, [], ◌∷◌, ◌++◌, length, map, Option, Some, None, refl, sym, ap, subst}
 use Rattle.std.specs.Prelude.{codes}
 use Rattle.std.specs.Option.{option_to_list}
@@ -11,7 +11,8 @@ use Rattle.fluent_grammar.specs.Refusal.{got}
 use Rattle.fluent_grammar.specs.Tree as t
 use Rattle.fluent_grammar.specs.Tree.{Elements}
 use Rattle.fluent_grammar.specs.Ends.{EndsIn}
-use Rattle.fluent_grammar.specs.Reading.{key_at}
+use Rattle.fluent_grammar.specs.Reading.{entry_at, key_at}
+use Rattle.fluent_grammar.proofs.Cases.{cases, or-right}
 use Rattle.fluent_grammar.proofs.Within.{end-trans}
 use Rattle.fluent_errors.specs.Errors.{Unresolved, unknown, no_value, missing_default, cyclic, too_many_placeables, to_function, to_message, to_term, to_variable}
 use Rattle.fluent_meaning.specs.Choice.{first_default}
@@ -24,17 +25,18 @@ use Rattle.lint_findings.specs.FlawHints.{never_ends}
 use Rattle.lint_findings.specs.FlawWords.{flaw_words}
 use Rattle.lint_findings.specs.Nodes.{Node, expression, select, repeated_key, elements_nodes}
 use Rattle.lint_findings.specs.Occurrences.{Occurrence, occurrences, inline_read, pattern_read, PatternPlace}
-use Rattle.lint_findings.specs.Finding.{Finding, Remark}
-use Rattle.lint_findings.proofs.NodeRemarks.{flaw_finding, node_findings_are, IsPlain, doubts_are_plain}
+use Rattle.lint_findings.specs.Finding.{Finding, Remark, finding_at}
+use Rattle.lint_findings.proofs.NearNamesAreThere.{is_same}
+use Rattle.lint_findings.proofs.NodeRemarks.{flaw_finding, node_findings_are, lone_codes, IsPlain, doubts_are_plain}
 use Rattle.lint_findings.proofs.LetterRemarks.{letters_are_plain}
 use Rattle.lint_findings.specs.Letters.{letters}
 use Rattle.lint_findings.specs.EntryFindings.{endless_remark, finding_in, node_flaws, node_doubts, node_findings, nodes_findings, pattern_text, pattern_findings, attribute_findings, patterns_findings, pattern_places, entry_findings}
 use Rattle.lint_findings.specs.Files.{File}
-use Rattle.lint_findings.specs.DuplicateIds.{Declaration, id_of, duplicate_findings}
-use Rattle.lint_findings.specs.UnusedTerms.{unused_findings}
+use Rattle.lint_findings.specs.DuplicateIds.{Declaration, id_of, label_of, duplicate_findings}
+use Rattle.lint_findings.specs.UnusedTerms.{unused_remark, unused_findings}
 use Rattle.lint_findings.specs.Findings.{Rules, FileFinding, findings_if_first, findings_of_entry, findings_of_tile}
 use Rattle.lint_findings.specs.PlaceLaws.{IsReadAt, IsReadIn, nodes, ArePatternsAt}
-use Rattle.lint_findings.specs.FindingLaws.{syntax_codes, reference_codes, IsOfReference, source_selects, IsOfLostVariant, is_repeated}
+use Rattle.lint_findings.specs.FindingLaws.{syntax_codes, reference_codes, IsOfReference, source_selects, IsOfLostVariant, is_repeated, IsOfLoneTerm, is_unused}
 use Rattle.lint_findings.proofs.OccurrencesAreRead.{occurrences_are_read}
 use Rattle.lint_findings.proofs.OccurrencesAreTheNodes.{occurrences_are_the_nodes}
 use Rattle.lint_findings.proofs.PatternPlaces.{patterns_have_places}
@@ -46,7 +48,7 @@ clash b p q = false≢true (sym p ∙ q)
 
 -- ---- codes
 
-not_syntax : (e : Unresolved) → is_among ((flaw_words (unresolved e)).code) syntax_codes ≡ false
+not_syntax : (e : Unresolved) → is_among ((flaw_words (unresolved e)).code) lone_codes ≡ false
 not_syntax (unknown (to_function id)) = refl
 not_syntax (unknown (to_message id None)) = refl
 not_syntax (unknown (to_message id (Some a))) = refl
@@ -70,10 +72,20 @@ not_repeated missing_default = refl
 not_repeated cyclic = refl
 not_repeated too_many_placeables = refl
 
+-- a code that is none of these
+other_syntax : (code : Text) → is_among code lone_codes ≡ false → is_among code syntax_codes ≡ false
+other_syntax code p = or-right (bytes_eq (codes "unused-term") code) (is_among code syntax_codes) p
+
+other_unused : (code : Text) → is_among code lone_codes ≡ false → bytes_eq code (codes "unused-term") ≡ false
+other_unused code p = cases (bytes_eq code (codes "unused-term"))
+    (λ b. absurd (false≢true (sym p ∙ ap (λ c. is_among c lone_codes) (is_same code (codes "unused-term") b))))
+    (λ b. b)
+
 -- what the laws say of a finding with such a code
-pub record Keeps (S : Type 0) (ids : Ids (Unit {0})) (f : FileFinding) : Type 0 where
+pub record Keeps (S : Type 0) (ids : Ids (Unit {0})) (is_referred : Text → Bool) (f : FileFinding) : Type 0 where
   pub reference : is_among f.finding.code reference_codes ≡ true → IsOfReference ids f
   pub repeated : is_repeated f ≡ true → IsOfLostVariant S f
+  pub unused : is_unused f ≡ true → IsOfLoneTerm (λ id. is_referred id ≡ true) f
 
 -- ---- findings of an entry
 
@@ -87,7 +99,7 @@ module _ (S : Type 0) (rules : Rules) (file : File) where
   -- a finding that the laws hold of, and that isn't of junk
   pub record IsSound (f : Finding) : Type 0 where
     pub unlike_syntax : is_among f.code syntax_codes ≡ false
-    pub keeps : Keeps S rules.ids (in_file f)
+    pub keeps : Keeps S rules.ids rules.is_referred (in_file f)
 
   abbrev AreSound : List Finding → Type 0
   AreSound fs = All IsSound fs
@@ -102,8 +114,15 @@ module _ (S : Type 0) (rules : Rules) (file : File) where
   one f h = All-cons IsSound f [] h none
 
   -- a finding that no law is about
-  pub plain : (f : Finding) → is_among f.code syntax_codes ≡ false → is_among f.code reference_codes ≡ false → bytes_eq f.code (codes "duplicate-variant") ≡ false → IsSound f
-  plain f p q r = record { unlike_syntax = p; keeps = record { reference = λ e. absurd (clash (is_among f.code reference_codes) q e); repeated = λ e. absurd (clash (bytes_eq f.code (codes "duplicate-variant")) r e) } }
+  pub plain : (f : Finding) → is_among f.code lone_codes ≡ false → is_among f.code reference_codes ≡ false → bytes_eq f.code (codes "duplicate-variant") ≡ false → IsSound f
+  plain f p q r = record {
+    unlike_syntax = other_syntax f.code p;
+    keeps = record {
+      reference = λ e. absurd (clash (is_among f.code reference_codes) q e);
+      repeated = λ e. absurd (clash (bytes_eq f.code (codes "duplicate-variant")) r e);
+      unused = λ e. absurd (clash (bytes_eq f.code (codes "unused-term")) (other_unused f.code p) e);
+    };
+  }
 
   pub if_one : (b : Bool) (f : Finding) → IsSound f → AreSound (if b then f ∷ [] else [])
   if_one true f h = one f h
@@ -125,10 +144,11 @@ module _ (S : Type 0) (rules : Rules) (file : File) where
       of_reference i rest read None is = none
       of_reference i rest read (Some e) is =
           one (flaw_finding rules.ids rules.reference source owner at (unresolved e)) (record {
-            unlike_syntax = not_syntax e;
+            unlike_syntax = other_syntax ((flaw_words (unresolved e)).code) (not_syntax e);
             keeps = record {
               reference = λ c. record { reference = i; rest = rest; error = e; read = ap inline_read (at_offset source at h) ∙ read; missing = is; code = refl; text = refl };
               repeated = λ c. absurd (clash (bytes_eq ((flaw_words (unresolved e)).code) (codes "duplicate-variant")) (not_repeated e) c);
+              unused = λ c. absurd (clash (bytes_eq ((flaw_words (unresolved e)).code) (codes "unused-term")) (other_unused ((flaw_words (unresolved e)).code) (not_syntax e)) c);
             };
           })
 
@@ -153,6 +173,7 @@ module _ (S : Type 0) (rules : Rules) (file : File) where
                 lost = never_matches known.1 known.0 key known.2.1;
                 text = refl;
               };
+              unused = λ c. absurd (false≢true c);
             };
           }
 
@@ -226,24 +247,38 @@ module _ (S : Type 0) (rules : Rules) (file : File) where
     of_id : (before : List Declaration) (e : t.Entry) (at : ℕ) (id : Text) → AreSound (duplicate_findings rules.functions before e at id)
     of_id before e at id = if_one _ _ (plain _ refl refl refl)
 
-    of_unused : (e : t.Entry) (at : ℕ) → AreSound (unused_findings rules.is_referred e at)
-    of_unused (t.message m) at = none
-    of_unused (t.term m) at = unless_one (rules.is_referred m.id) _ (plain _ refl refl refl)
-    of_unused (t.comment c) at = none
-    of_unused (t.group_comment c) at = none
-    of_unused (t.resource_comment c) at = none
-    of_unused (t.junk x) at = none
+    of_lone : (m : t.Term) (at : ℕ) (s rest : Text) → EndsIn s source → entry_at s ≡ got (t.term m) rest → (b : Bool) → rules.is_referred m.id ≡ b →
+        AreSound (if b then [] else finding_at at (label_of (t.term m)) unused_remark ∷ [])
+    of_lone m at s rest place read true is = none
+    of_lone m at s rest place read false is =
+        one (finding_at at (label_of (t.term m)) unused_remark) (record {
+          unlike_syntax = refl;
+          keeps = record {
+            reference = λ c. absurd (false≢true c);
+            repeated = λ c. absurd (false≢true c);
+            unused = λ c. record { term = m; at = s; rest = rest; place = place; read = read; label = refl; unused = λ h. false≢true (sym is ∙ h) };
+          };
+        })
 
-    unless_taken : (b : Bool) (e : t.Entry) (at : ℕ) (s : Text) → AreSound (if b then findings_if_first rules source e at s else [])
-    unless_taken true e at s = both (unused_findings rules.is_referred e at) _ (of_unused e at) (compares e s)
-    unless_taken false e at s = none
+    of_unused : (e : t.Entry) (at : ℕ) (s : Text) → IsReadTile source (entry_tile at s e) → AreSound (unused_findings rules.is_referred e at)
+    of_unused (t.message m) at s read = none
+    of_unused (t.term m) at s read = of_lone m at s read.1.0 read.0 read.1.1 (rules.is_referred m.id) refl
+    of_unused (t.comment c) at s read = none
+    of_unused (t.group_comment c) at s read = none
+    of_unused (t.resource_comment c) at s read = none
+    of_unused (t.junk x) at s read = none
 
-    of_known : (before : List Declaration) (e : t.Entry) (at : ℕ) (s : Text) (o : Option Text) → AreSound (entry_findings rules.ids rules.reference rules.plurals source e s) → AreSound (findings_of_entry rules before source e at s o)
-    of_known before e at s None h = none
-    of_known before e at s (Some id) h =
+    unless_taken : (b : Bool) (e : t.Entry) (at : ℕ) (s : Text) → IsReadTile source (entry_tile at s e) → AreSound (if b then findings_if_first rules source e at s else [])
+    unless_taken true e at s read = both (unused_findings rules.is_referred e at) _ (of_unused e at s read) (compares e s)
+    unless_taken false e at s read = none
+
+    of_known : (before : List Declaration) (e : t.Entry) (at : ℕ) (s : Text) (o : Option Text) → IsReadTile source (entry_tile at s e) → AreSound (entry_findings rules.ids rules.reference rules.plurals source e s) →
+        AreSound (findings_of_entry rules before source e at s o)
+    of_known before e at s None read h = none
+    of_known before e at s (Some id) read h =
         let duplicates = duplicate_findings rules.functions before e at id in
-        both duplicates _ (of_id before e at id) (both (entry_findings rules.ids rules.reference rules.plurals source e s) _ h (unless_taken (length duplicates == 0) e at s))
+        both duplicates _ (of_id before e at id) (both (entry_findings rules.ids rules.reference rules.plurals source e s) _ h (unless_taken (length duplicates == 0) e at s read))
 
     pub of_entry_tile : (before : List Declaration) (at : ℕ) (s : Text) (e : t.Entry) → IsReadTile source (entry_tile at s e) → IsTileAmong (source_selects source) (entry_tile at s e) →
         AreSound (findings_of_tile rules before file (entry_tile at s e))
-    of_entry_tile before at s e read among = of_known before e at s (id_of e) (of_entry e s read among)
+    of_entry_tile before at s e read among = of_known before e at s (id_of e) read (of_entry e s read among)

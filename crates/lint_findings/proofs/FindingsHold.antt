@@ -1,16 +1,18 @@
 -- What holds of the findings of an entry holds of those of all files.
-use Rattle.std.proofs.Common.{◌≡◌, ◌∙◌, ℕ, Bool, true, false, if◌then◌else◌, List, [], ◌∷◌, ◌++◌, map, filter, refl, sym, ap, append-nil}
+use Rattle.std.proofs.Common.{◌≡◌, ◌∙◌, ℕ, zero, suc, ◌<◌, Bool, true, false, if◌then◌else◌, List, [], ◌∷◌, ◌++◌, length, map, filter, Option, refl, sym, ap, subst, arith, append-nil, Contains}
 use Rattle.std.specs.Prelude.{is_some}
-use Rattle.std.specs.List.{All, flat_map}
+use Rattle.std.specs.List.{All, flat_map, slice_index_or}
 use Rattle.std.proofs.lemmas.Bool.{false≢true}
 use Rattle.std.proofs.lemmas.Grind.{flat_map-append}
 use Rattle.std.proofs.lemmas.List.{map-append}
-use Rattle.std.proofs.lemmas.List.Elements.{All-nil, All-cons, All-head, All-tail, All-append, All-weaker, filter-append}
+use Rattle.std.proofs.lemmas.List.Elements.{All-nil, All-cons, All-head, All-tail, All-append, All-weaker, Contains-append_left, Contains-append_right, filter-append}
 use Rattle.fluent_grammar.specs.Words.{Text, is_among}
 use Rattle.fluent_grammar.specs.Refusal.{Refusal}
 use Rattle.fluent_grammar.specs.Tree as t
+use Rattle.fluent_grammar.specs.Tree.{Inline, MaybeArguments}
 use Rattle.fluent_grammar.specs.Tiling.{errors}
 use Rattle.fluent_meaning.specs.Ids.{Ids, find}
+use Rattle.fluent_tidy_laws.specs.Joined.{lists}
 use Rattle.lint_findings.specs.Tiles.{Tile, entry_tile, junk_tile, tiles}
 use Rattle.lint_findings.specs.Comparison.{Difference, missing_message, obsolete_message, missing_value, obsolete_value, missing_attribute, obsolete_attribute, unknown_variable, missing_variable, unused_variable, untranslated, differences, variables_of, as_message}
 use Rattle.lint_findings.specs.ComparisonFindings.{difference_finding, message_findings, missing_findings}
@@ -18,10 +20,14 @@ use Rattle.lint_findings.specs.Finding.{Finding}
 use Rattle.lint_findings.specs.SyntaxFindings.{begins_marked, mark_finding, refusal_finding, syntax_finding}
 use Rattle.lint_findings.specs.Files.{File}
 use Rattle.lint_findings.specs.DuplicateIds.{Declaration}
-use Rattle.lint_findings.specs.Findings.{Options, Rules, FileFinding, FileTile, findings_in, tiles_in, findings_of_tile, findings_of_tiles, declarations_of_tile, catalog_rules, translation_rules, known_ids, missing_messages}
+use Rattle.lint_findings.specs.Findings.{Options, Rules, FileFinding, FileTile, sources, findings_in, tiles_in, findings_of_tile, findings_of_tiles, declarations_of_tile, catalog_rules, translation_rules, known_ids, missing_messages}
 use Rattle.lint_findings.specs.PlaceLaws.{tile_errors}
-use Rattle.lint_findings.specs.FindingLaws.{OfCatalogs, OfTranslations, syntax_codes, is_syntax, syntax_files, error_files, HasErrors, HasReferences, source_selects, HasLostVariants}
+use Rattle.lint_findings.specs.FindingLaws.{OfCatalogs, OfTranslations, syntax_codes, is_syntax, syntax_files, error_files, HasErrors, HasReferences, source_selects, HasLostVariants, IsReferredIn, IsOfLoneTerm, is_unused, HasLoneTerms}
+use Rattle.lint_findings.specs.Flaws.{Owner, entry_patterns}
+use Rattle.lint_findings.specs.References.{elements_references}
+use Rattle.lint_findings.specs.UnusedTerms.{referred_term, referred_terms, is_referred_in}
 use Rattle.lint_findings.proofs.EachFinding.{Keeps, IsSound, none, one, mapped, plain, of_entry_tile}
+use Rattle.lint_findings.proofs.NearNamesAreThere.{is_among_it}
 use Rattle.lint_findings.proofs.SourcePlaces.{IsReadTile, tiles_are_read, IsTileAmong, tiles_are_among}
 use Rattle.lint_findings.proofs.TilesAreTheList.{tiles_have_the_errors}
 
@@ -74,7 +80,7 @@ junk_file file (entry_tile at s e) = []
 
 module _ (S : Type 0) (rules : Rules) where
   abbrev Kept : FileFinding → Type 0
-  Kept f = Keeps S rules.ids f
+  Kept f = Keeps S rules.ids rules.is_referred f
 
   abbrev AreKept : List FileFinding → Type 0
   AreKept fs = All Kept fs
@@ -90,8 +96,8 @@ module _ (S : Type 0) (rules : Rules) where
   of_junk marked at s refusal = if marked then mark_finding else refusal_finding at s refusal
 
   junk_kept : (file : File) (marked : Bool) (at : ℕ) (s : Text) (refusal : Refusal) → Kept (record { file = file; finding = of_junk marked at s refusal })
-  junk_kept file true at s refusal = record { reference = λ e. absurd (false≢true e); repeated = λ e. absurd (false≢true e) }
-  junk_kept file false at s refusal = record { reference = λ e. absurd (false≢true e); repeated = λ e. absurd (false≢true e) }
+  junk_kept file true at s refusal = record { reference = λ e. absurd (false≢true e); repeated = λ e. absurd (false≢true e); unused = λ e. absurd (false≢true e) }
+  junk_kept file false at s refusal = record { reference = λ e. absurd (false≢true e); repeated = λ e. absurd (false≢true e); unused = λ e. absurd (false≢true e) }
 
   junk_syntax : (file : File) (marked : Bool) (at : ℕ) (s : Text) (refusal : Refusal) → syntax_files (findings_in file (of_junk marked at s refusal ∷ [])) ≡ file ∷ []
   junk_syntax file true at s refusal = refl
@@ -190,7 +196,7 @@ module _ (S : Type 0) (options : Options) (files : List File) where
   compares_nothing : (file : File) (e : t.Entry) (s : Text) → All (IsSound S own_rules file) (own_rules.compare file.source e s)
   compares_nothing file e s = none S own_rules file
 
-  pub catalog_kept : All (Keeps S own_rules.ids) (findings_of_tiles own_rules [] (flat_map tiles_in files))
+  pub catalog_kept : All (Keeps S own_rules.ids own_rules.is_referred) (findings_of_tiles own_rules [] (flat_map tiles_in files))
   catalog_kept = files_kept S own_rules compares_nothing files
 
   pub catalog_syntax : syntax_files (findings_of_tiles own_rules [] (flat_map tiles_in files)) ≡ error_files files
@@ -203,9 +209,9 @@ module _ (S : Type 0) (options : Options) (references files : List File) where
   compares_messages : (file : File) (e : t.Entry) (s : Text) → All (IsSound S both_rules file) (both_rules.compare file.source e s)
   compares_messages file e s = of_message S both_rules file (known_ids options references files) (known_ids options references references) e s
 
-  pub translation_kept : All (Keeps S both_rules.ids) (findings_of_tiles both_rules [] (flat_map tiles_in files) ++ missing_messages options references files)
+  pub translation_kept : All (Keeps S both_rules.ids both_rules.is_referred) (findings_of_tiles both_rules [] (flat_map tiles_in files) ++ missing_messages options references files)
   translation_kept =
-      All-append (Keeps S both_rules.ids) (findings_of_tiles both_rules [] (flat_map tiles_in files)) (missing_messages options references files) (files_kept S both_rules compares_messages files)
+      All-append (Keeps S both_rules.ids both_rules.is_referred) (findings_of_tiles both_rules [] (flat_map tiles_in files)) (missing_messages options references files) (files_kept S both_rules compares_messages files)
       (missing_kept S both_rules (known_ids options references files) (flat_map tiles_in references))
 
   pub translation_syntax : syntax_files (findings_of_tiles both_rules [] (flat_map tiles_in files) ++ missing_messages options references files) ≡ error_files files
@@ -222,13 +228,53 @@ pub translation_errors : OfTranslations HasErrors
 translation_errors options references files = translation_syntax (Unit {0}) options references files
 
 pub catalog_references : OfCatalogs HasReferences
-catalog_references options files = All-weaker (Keeps (Unit {0}) _) _ (λ f h. h.reference) _ (catalog_kept (Unit {0}) options files)
+catalog_references options files = All-weaker (Keeps (Unit {0}) _ _) _ (λ f h. h.reference) _ (catalog_kept (Unit {0}) options files)
 
 pub translation_references : OfTranslations HasReferences
-translation_references options references files = All-weaker (Keeps (Unit {0}) _) _ (λ f h. h.reference) _ (translation_kept (Unit {0}) options references files)
+translation_references options references files = All-weaker (Keeps (Unit {0}) _ _) _ (λ f h. h.reference) _ (translation_kept (Unit {0}) options references files)
 
 pub catalog_variants : {S : Type 0} → OfCatalogs (HasLostVariants S)
-catalog_variants {S} options files = All-weaker (Keeps S _) _ (λ f h. h.repeated) _ (catalog_kept S options files)
+catalog_variants {S} options files = All-weaker (Keeps S _ _) _ (λ f h. h.repeated) _ (catalog_kept S options files)
 
 pub translation_variants : {S : Type 0} → OfTranslations (HasLostVariants S)
-translation_variants {S} options references files = All-weaker (Keeps S _) _ (λ f h. h.repeated) _ (translation_kept S options references files)
+translation_variants {S} options references files = All-weaker (Keeps S _ _) _ (λ f h. h.repeated) _ (translation_kept S options references files)
+
+-- ---- terms
+
+in_parts : {X Y : Type 0} (f : X → List Y) (xs : List X) (x : X) (y : Y) (k : ℕ) → k < length xs → slice_index_or xs k x ≡ x → Contains (f x) y → Contains (flat_map f xs) y
+in_parts f [] x y k inside is at = absurd (omega (arith, inside))
+in_parts f (z ∷ zs) x y zero inside is at = Contains-append_left (f z) (flat_map f zs) y (subst (λ w. Contains (f w) y) (sym is) at)
+in_parts f (z ∷ zs) x y (suc k) inside is at = Contains-append_right (f z) (flat_map f zs) y (in_parts f zs x y k (omega (arith, inside)) is at)
+
+Contains-flat_map : {X Y : Type 0} (f : X → List Y) (xs : List X) (x : X) (y : Y) → Contains xs x → Contains (f x) y → Contains (flat_map f xs) y
+Contains-flat_map f xs x y there at = in_parts f xs x y there.0 there.1 there.2 at
+
+referred_there : (id : Text) (is : List Inline) (a : Option Text) (c : MaybeArguments) → Contains is (t.term_reference id a c) → Contains (flat_map referred_term is) id
+referred_there id is a c at = Contains-flat_map referred_term is (t.term_reference id a c) id at (0, omega arith, refl)
+
+-- what a text refers to is among the terms that are referred to
+is_referred : (texts : List Text) (id : Text) → IsReferredIn texts id → is_referred_in texts id ≡ true
+is_referred texts id at =
+    is_among_it (referred_terms texts) id
+    (Contains-flat_map (λ (p : Owner × t.Elements). flat_map referred_term (elements_references p.1)) (flat_map entry_patterns (lists texts)) at.0 id at.1
+    (referred_there id (elements_references at.0.1) at.2 at.3 at.4))
+
+lone : (texts : List Text) (f : FileFinding) → IsOfLoneTerm (λ id. is_referred_in texts id ≡ true) f → IsOfLoneTerm (IsReferredIn texts) f
+lone texts f h = record {
+  term = h.term;
+  at = h.at;
+  rest = h.rest;
+  place = h.place;
+  read = h.read;
+  label = h.label;
+  unused = λ at. h.unused (is_referred texts h.term.id at);
+}
+
+abbrev IsLoneIn : List Text → FileFinding → Type 0
+IsLoneIn texts f = is_unused f ≡ true → IsOfLoneTerm (IsReferredIn texts) f
+
+pub catalog_terms : OfCatalogs HasLoneTerms
+catalog_terms options files = All-weaker (Keeps (Unit {0}) _ _) (IsLoneIn (sources files)) (λ f h e. lone (sources files) f (h.unused e)) _ (catalog_kept (Unit {0}) options files)
+
+pub translation_terms : OfTranslations HasLoneTerms
+translation_terms options references files = All-weaker (Keeps (Unit {0}) _ _) (IsLoneIn (sources files)) (λ f h e. lone (sources files) f (h.unused e)) _ (translation_kept (Unit {0}) options references files)

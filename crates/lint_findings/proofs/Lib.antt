@@ -23,7 +23,11 @@ pub mod ProgramIds
 pub mod NodeRemarks
 pub mod LetterRemarks
 pub mod QuotedAreSpelled
+pub mod NearNamesAreThere
 pub mod FactsAreTrue
+pub mod HintsAreSo
+pub mod MisusesAreTrue
+pub mod CategoriesAreTaken
 pub mod MissingVariables
 pub mod CleanReports
 pub mod Positions

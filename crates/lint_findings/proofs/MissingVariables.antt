@@ -14,7 +14,7 @@ use Rattle.lint_findings.specs.Comparison.{Difference, missing_message, obsolete
 use Rattle.lint_findings.specs.FactLaws.{Shows, in_placeable, after_placeable, after_text, ExpressionShows, in_variant, in_inline, VariantsShow, in_this, in_later, InlineShows, itself, in_nested, given_to, InlinesShow, first, next, MessageShows, IsLost, MissingVariablesAreShown}
 use Rattle.lint_findings.specs.Shown.{elements_show, expression_shows, variants_show, inline_shows, inlines_show}
 
-either : {P : Type 0} (a b : Bool) → (a || b) ≡ true → (a ≡ true → P) → (b ≡ true → P) → P
+pub either : {P : Type 0} (a b : Bool) → (a || b) ≡ true → (a ≡ true → P) → (b ≡ true → P) → P
 either true b h here later = here refl
 either false b h here later = later h
 

@@ -15,7 +15,7 @@ use Rattle.lint_findings.specs.Nodes.{Node}
 use Rattle.lint_findings.specs.Misuses.{misuse_remark}
 use Rattle.fluent_number.specs.declared.plural.PluralCategory.{PluralCategory}
 use Rattle.fluent_number.specs.declared.plural.PluralCategory.TheVariants.{ZERO, ONE, TWO, FEW, MANY, OTHER}
-use Rattle.lint_findings.specs.Facts.{Fact, quoted_placeable, unused_argument, unknown_value, lacking_category, nearly_category, node_facts, lacking_remark, fact_remark}
+use Rattle.lint_findings.specs.Facts.{Fact, quoted_placeable, unused_argument, unknown_value, lacking_category, nearly_category, other_text, node_facts, lacking_remark, fact_remark}
 use Rattle.lint_findings.specs.EntryFindings.{flaw_remark, category_remark, escape_remark, node_flaws, node_categories, node_escapes, node_misuses, node_doubts, node_findings, finding_in}
 
 -- of a flaw of a node
@@ -35,9 +35,13 @@ module _ {F : Type 0} (ids reference : Ids F) (plurals : Option LanguagePlurals)
       map-append make (map (flaw_remark ids reference) flaws) (node_doubts ids plurals node)
       ∙ ap (λ fs. fs ++ map make (node_doubts ids plurals node)) (made make (flaw_remark ids reference) flaws)
 
+-- the codes of junk, and of terms that nothing refers to
+abbrev pub lone_codes : List Text
+lone_codes = codes "unused-term" ∷ syntax_codes
+
 -- a remark with a code that no law is about
 pub record IsPlain (r : Remark) : Type 0 where
-  pub no_syntax : is_among r.code syntax_codes ≡ false
+  pub no_syntax : is_among r.code lone_codes ≡ false
   pub no_reference : is_among r.code reference_codes ≡ false
   pub no_variant : bytes_eq r.code (codes "duplicate-variant") ≡ false
 
@@ -60,6 +64,7 @@ fact_is_plain (unused_argument id nodes x) = record { no_syntax = refl; no_refer
 fact_is_plain (unknown_value id nodes x raw s) = record { no_syntax = refl; no_reference = refl; no_variant = refl }
 fact_is_plain (lacking_category cs c) = lacking_is_plain cs c
 fact_is_plain (nearly_category s) = record { no_syntax = refl; no_reference = refl; no_variant = refl }
+fact_is_plain (other_text id name s key) = record { no_syntax = refl; no_reference = refl; no_variant = refl }
 
 pub doubts_are_plain : {F : Type 0} (ids : Ids F) (plurals : Option LanguagePlurals) (node : Node) → All IsPlain (node_doubts ids plurals node)
 doubts_are_plain ids plurals node =

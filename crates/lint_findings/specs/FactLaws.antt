@@ -1,5 +1,5 @@
 -- What each fact of a node means, and each variable that only the reference shows, as statements.
-use Rattle.std.specs.Prelude.{◌≡◌, ℕ, ◌<◌, Bool, false, ◌∷◌, drop, All, Option, Some, None}
+use Rattle.std.specs.Prelude.{◌≡◌, ℕ, ◌<◌, Bool, false, List, ◌∷◌, drop, All, Option, Some, None}
 use Rattle.std.specs.List.{Contains}
 use Rattle.fluent_grammar.specs.Words.{Text, quote, is_among}
 use Rattle.fluent_grammar.specs.Tree as t
@@ -9,9 +9,10 @@ use Rattle.fluent_number.specs.declared.plural.PluralCategory.{PluralCategory}
 use Rattle.fluent_number.specs.declared.plural.PluralRuleType.{PluralRuleType}
 use Rattle.fluent_plurals.specs.declared.plurals.LanguagePlurals.{LanguagePlurals}
 use Rattle.lint_findings.specs.Comparison.{missing_variable, differences, message_patterns, variables_of}
-use Rattle.lint_findings.specs.Facts.{Fact, quoted_placeable, unused_argument, unknown_value, lacking_category, nearly_category, node_facts}
+use Rattle.lint_findings.specs.Facts.{Fact, quoted_placeable, unused_argument, unknown_value, lacking_category, nearly_category, categories_of, node_facts, other_text}
 use Rattle.lint_findings.specs.FlawWords.{key_text}
 use Rattle.lint_findings.specs.MissingCategories.{category_named, variant_keys, whole_category}
+use Rattle.lint_findings.specs.NearLaws.{IsSlip}
 use Rattle.lint_findings.specs.Nodes.{Node, expression, select}
 use Rattle.lint_findings.specs.QuotedLaws.{IsPlaceableAt}
 use Rattle.lint_findings.specs.TermUses.{term_nodes}
@@ -32,10 +33,22 @@ HasVariant m x s =
     (vs : Variants) × (k : VariantKey) × Contains (term_nodes m) (select (t.variable_reference x) vs)
     × Contains (variant_keys vs) k × (key_text k ≡ s)
 
--- a node refers to a term that lacks something
-abbrev pub RefersToOneWithout : {F : Type 0} → Ids F → Node → Text → (t.Term → Type 0) → Type 0
-RefersToOneWithout ids node id Has =
-    IsReferenceTo id node × (m : t.Term) × (find ids id ≡ Some (term m)) × (Has m → ⊥)
+-- a node refers to a term that has these nodes, and lacks something
+abbrev pub RefersToOneWithout : {F : Type 0} → Ids F → Node → Text → List Node → (t.Term → Type 0) → Type 0
+RefersToOneWithout ids node id nodes Has =
+    IsReferenceTo id node × (m : t.Term) × (find ids id ≡ Some (term m)) × (nodes ≡ term_nodes m) × (Has m → ⊥)
+
+-- ---- attributes of terms
+
+-- a node is a select on this attribute of the term of this id
+abbrev pub IsSelectOn : Text → Text → Node → Type 0
+IsSelectOn id name node = (c : MaybeArguments) × (vs : Variants) × (node ≡ select (t.term_reference id (Some name) c) vs)
+
+-- the term of this id has an attribute of this name that is this text, and nothing else
+abbrev pub IsAttributeText : {F : Type 0} → Ids F → Text → Text → Text → Type 0
+IsAttributeText ids id name s =
+    (m : t.Term) × (find ids id ≡ Some (term m)) × (a : t.Attribute) × Contains m.attributes a × (a.id ≡ name)
+    × (a.value ≡ t.text s t.no_elements)
 
 -- ---- categories
 
@@ -43,17 +56,23 @@ RefersToOneWithout ids node id Has =
 abbrev pub IsNeverTaken : LanguagePlurals → PluralRuleType → PluralCategory → Type 0
 IsNeverTaken plurals rule c = (n : ℕ) → n < 1000 → whole_category plurals rule n ≡ c → ⊥
 
+-- a text names a plural category: one that CLDR has, whether the language has it or not
+abbrev pub IsCategory : Text → Type 0
+IsCategory s = (c : PluralCategory) × (category_named s ≡ Some c)
+
 -- ---- facts
 
 -- what is so if this is a fact of a node
 abbrev pub IsTrueOf : {F : Type 0} → Ids F → Option LanguagePlurals → Node → Fact → Type 0
 IsTrueOf ids plurals node (quoted_placeable q) =
     (raw : Text) × (node ≡ expression (t.string_literal raw)) × IsPlaceableAt (drop q.inside (quote ∷ raw)) q.reference
-IsTrueOf ids plurals node (unused_argument id nodes x) = RefersToOneWithout ids node id (λ m. HasVariable m x)
-IsTrueOf ids plurals node (unknown_value id nodes x raw s) = RefersToOneWithout ids node id (λ m. HasVariant m x s)
+IsTrueOf ids plurals node (unused_argument id nodes x) = RefersToOneWithout ids node id nodes (λ m. HasVariable m x)
+IsTrueOf ids plurals node (unknown_value id nodes x raw s) = RefersToOneWithout ids node id nodes (λ m. HasVariant m x s)
 IsTrueOf ids plurals node (lacking_category cs c) =
     (language : LanguagePlurals) × (rule : PluralRuleType) × (plurals ≡ Some language) × IsNeverTaken language rule c
-IsTrueOf ids plurals node (nearly_category s) = category_named s ≡ None
+    × (cs ≡ categories_of language rule)
+IsTrueOf ids plurals node (nearly_category s) = (category_named s ≡ None) × (near : Text) × IsSlip s near × IsCategory near
+IsTrueOf ids plurals node (other_text id name s key) = IsSelectOn id name node × IsAttributeText ids id name s × (key ≡ s → ⊥)
 
 -- Each fact of each node is so.
 abbrev pub FactsAreTrue : Type 0 → Type 0

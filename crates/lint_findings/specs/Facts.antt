@@ -1,13 +1,14 @@
 -- What is true of a node, whatever the request, although no answer has an error: a placeable that isn't filled in, an
--- argument that a term doesn't use, a value that it has no variant for, and keys of plural categories that are none.
-use Rattle.std.specs.Prelude.{Bool, true, false, not, ◌&&◌, ◌||◌, if◌then◌else◌, List, [], ◌∷◌, ◌++◌, map, filter, Option, Some, None, is_some, codes}
+-- argument that a term doesn't use, a value that it has no variant for, a key that its attribute never is, and keys of
+-- plural categories that are none.
+use Rattle.std.specs.Prelude.{Bool, true, false, not, ◌&&◌, ◌||◌, if◌then◌else◌, List, [], ◌∷◌, ◌++◌, map, filter, Option, Some, None, is_some, unwrap_or, codes}
 use Rattle.std.specs.Option.{option_to_list}
 use Rattle.std.specs.List.{list_all, list_any}
 use Rattle.std.specs.Str.{bytes_eq}
 use Rattle.fluent_grammar.specs.Escapes.{unescaped}
 use Rattle.fluent_grammar.specs.Words.{Text}
 use Rattle.fluent_grammar.specs.Tree as t
-use Rattle.fluent_grammar.specs.Tree.{Inline, Inlines, Nameds, Variants, VariantKey}
+use Rattle.fluent_grammar.specs.Tree.{Elements, Inline, Inlines, Nameds, Variants, VariantKey}
 use Rattle.fluent_number.specs.declared.plural.PluralCategory.{PluralCategory}
 use Rattle.fluent_number.specs.declared.plural.PluralCategory.TheVariants.{ONE, OTHER}
 use Rattle.fluent_number.specs.declared.plural.PluralRuleType.{PluralRuleType}
@@ -21,7 +22,7 @@ use Rattle.lint_findings.specs.MissingCategories.{categories, category_named, is
 use Rattle.lint_findings.specs.NearNames.{nearest, nearest_hint}
 use Rattle.lint_findings.specs.Nodes.{Node, expression, select, repeated_key}
 use Rattle.lint_findings.specs.Quoted.{Quoted, quoted}
-use Rattle.lint_findings.specs.TermUses.{term_nodes, has_variable, has_key, chooses_by_words}
+use Rattle.lint_findings.specs.TermUses.{term_nodes, has_variable, has_key, chooses_by_words, is_key}
 
 pub data Fact : Type 0 where
   -- a string literal has this placeable
@@ -34,6 +35,8 @@ pub data Fact : Type 0 where
   lacking_category : List PluralCategory → PluralCategory → Fact
   -- a key is nearly a category
   nearly_category : Text → Fact
+  -- the attribute of this name of the term with this id is this text, and not that of a key
+  other_text : Text → Text → Text → Text → Fact
 
 -- ---- string literals
 
@@ -131,6 +134,52 @@ abbrev pub plural_facts : Option LanguagePlurals → Inline → Variants → Lis
 plural_facts None selector vs = []
 plural_facts (Some plurals) selector vs = select_facts plurals selector vs
 
+-- ---- attributes of terms
+
+-- the text that a pattern is, if it is nothing else
+abbrev pub only_text : Elements → Option Text
+only_text (t.text s t.no_elements) = Some s
+only_text _ = None
+
+-- that of the first attribute of this name
+abbrev pub attribute_text : Text → List t.Attribute → Option Text
+attribute_text name [] = None
+attribute_text name (a ∷ as') = if bytes_eq name a.id then only_text a.value else attribute_text name as'
+
+-- that of the attribute of what an id stands for, if it is a term
+abbrev pub term_attribute_text : {F : Type 0} → Text → Option (Meaning F) → Option Text
+term_attribute_text name None = None
+term_attribute_text name (Some number_function) = None
+term_attribute_text name (Some (function f)) = None
+term_attribute_text name (Some (message m)) = None
+term_attribute_text name (Some (term m)) = attribute_text name m.attributes
+
+abbrev pub is_near_text : Text → Text → Bool
+is_near_text s key = is_some (nearest (bytes_eq s) key)
+
+-- A key isn't this text, and nearly is, or no key of its select is.
+abbrev pub is_other_text : List VariantKey → Text → Text → Bool
+is_other_text keys s key =
+    not (bytes_eq s key) && (not (is_category_name key) && (not (list_any (is_key s) keys) || is_near_text s key))
+
+abbrev pub other_facts : Text → Text → List VariantKey → Text → VariantKey → Bool → List Fact
+other_facts id name keys s (t.identifier_key key) d =
+    if not d && is_other_text keys s key then other_text id name s key ∷ [] else []
+other_facts id name keys s (t.number_key x) d = []
+
+-- of variants of a select with these keys on an attribute that is this text
+abbrev pub others_facts : Text → Text → List VariantKey → Text → Variants → List Fact
+others_facts id name keys s t.no_variants = []
+others_facts id name keys s (t.variant k es d vs) = other_facts id name keys s k d ++ others_facts id name keys s vs
+
+abbrev pub text_facts : Text → Text → Variants → Option Text → List Fact
+text_facts id name vs None = []
+text_facts id name vs (Some s) = others_facts id name (variant_keys vs) s vs
+
+abbrev pub attribute_facts : {F : Type 0} → Ids F → Inline → Variants → List Fact
+attribute_facts ids (t.term_reference id (Some name) c) vs = text_facts id name vs (term_attribute_text name (find ids id))
+attribute_facts ids _ vs = []
+
 -- ---- of a node
 
 abbrev pub expression_facts : {F : Type 0} → Ids F → Inline → List Fact
@@ -140,7 +189,7 @@ expression_facts ids _ = []
 
 abbrev pub node_facts : {F : Type 0} → Ids F → Option LanguagePlurals → Node → List Fact
 node_facts ids plurals (expression i) = expression_facts ids i
-node_facts ids plurals (select i vs) = plural_facts plurals i vs
+node_facts ids plurals (select i vs) = plural_facts plurals i vs ++ attribute_facts ids i vs
 node_facts ids plurals (repeated_key k) = []
 
 -- ---- what is said
@@ -162,6 +211,10 @@ lacking_remark [] ONE = remark note (codes "unused-category") (no_category_text 
 lacking_remark cs c =
     record (remark warning (codes "unknown-category") (no_category_text c)) { hint = Some (category_hint cs) }
 
+-- what is meant, if a key is nearly it, and otherwise what the attribute is
+abbrev pub text_hint : Text → Text → Text
+text_hint s key = unwrap_or (nearest_hint [] (bytes_eq s) key) (codes "it is " ++ in_backticks s)
+
 abbrev pub fact_remark : Fact → Remark
 fact_remark (quoted_placeable q) =
     record (remark warning (codes "placeable-in-literal") (codes "`{ " ++ (q.reference ++ codes " }` is shown as it is")))
@@ -176,3 +229,7 @@ fact_remark (lacking_category cs c) = lacking_remark cs c
 fact_remark (nearly_category s) =
     record (remark warning (codes "unknown-category") (in_backticks s ++ codes " is no plural category"))
     { hint = nearest_hint [] is_category_name s }
+fact_remark (other_text id name s key) =
+    record (remark warning (codes "unknown-term-variant")
+    (codes "`-" ++ (id ++ (codes "." ++ (name ++ (codes "` is never " ++ in_backticks key))))))
+    { hint = Some (text_hint s key) }

@@ -1,19 +1,21 @@
--- Laws of each finding: those of junk, of references and of repeated variants.
+-- Laws of each finding: those of junk, of references, of repeated variants and of unused terms.
 use Rattle.std.specs.Prelude.{◌≡◌, ℕ, zero, suc, true, List, [], ◌∷◌, drop, map, filter, All, Bool, Option, Some, None, codes}
 use Rattle.std.specs.List.{Contains, flat_map}
 use Rattle.std.specs.Str.{bytes_eq}
-use Rattle.fluent_grammar.specs.Words.{Text, is_among}
+use Rattle.fluent_grammar.specs.Words.{Text, hyphen, is_among}
 use Rattle.fluent_grammar.specs.Refusal.{got}
 use Rattle.fluent_grammar.specs.Tree as t
-use Rattle.fluent_grammar.specs.Tree.{Inline, Variants, VariantKey}
-use Rattle.fluent_grammar.specs.Reading.{key_at}
+use Rattle.fluent_grammar.specs.Tree.{Inline, MaybeArguments, Variants, VariantKey}
+use Rattle.fluent_grammar.specs.Ends.{EndsIn}
+use Rattle.fluent_grammar.specs.Reading.{entry_at, key_at}
 use Rattle.fluent_grammar.specs.Tiling.{errors, list}
 use Rattle.fluent_errors.specs.Errors.{Unresolved}
+use Rattle.fluent_tidy_laws.specs.Joined.{lists}
 use Rattle.fluent_value.specs.Matching.{Plurals}
 use Rattle.fluent_value.specs.Value.{Value}
 use Rattle.fluent_meaning.specs.Choice.{first_match}
 use Rattle.fluent_meaning.specs.Ids.{Ids, find}
-use Rattle.lint_findings.specs.References.{reference_error}
+use Rattle.lint_findings.specs.References.{elements_references, reference_error}
 use Rattle.lint_findings.specs.Flaws.{Owner, catalog_ids, duplicate_key, elements_selects, entry_patterns, unresolved}
 use Rattle.lint_findings.specs.FlawWords.{flaw_words}
 use Rattle.lint_findings.specs.Occurrences.{inline_read}
@@ -114,3 +116,27 @@ is_repeated f = bytes_eq f.finding.code (codes "duplicate-variant")
 -- Each finding of a repeated variant is of one that never matches.
 abbrev pub HasLostVariants : Type 0 → Ids (Unit {0}) → List File → List FileFinding → Type 0
 HasLostVariants S ids files fs = All (λ f. is_repeated f ≡ true → IsOfLostVariant S f) fs
+
+-- ---- terms that nothing refers to
+
+-- Some text of the messages and terms of sources has a reference to the term of this id, wherever it stands in it.
+abbrev pub IsReferredIn : List Text → Text → Type 0
+IsReferredIn texts id = (p : Owner × t.Elements) × Contains (flat_map entry_patterns (lists texts)) p
+    × (a : Option Text) × (c : MaybeArguments) × Contains (elements_references p.1) (t.term_reference id a c)
+
+-- A finding is of a term that is read at some end of the source. Nothing refers to it, and the finding has its label.
+pub record IsOfLoneTerm (Refers : Text → Type 0) (f : FileFinding) : Type 0 where
+  pub term : t.Term
+  pub at : Text
+  pub rest : Text
+  pub place : EndsIn at f.file.source
+  pub read : entry_at at ≡ got (t.term term) rest
+  pub label : f.finding.entry ≡ Some (hyphen ∷ term.id)
+  pub unused : Refers term.id → ⊥
+
+abbrev pub is_unused : FileFinding → Bool
+is_unused f = bytes_eq f.finding.code (codes "unused-term")
+
+-- Each finding of an unused term is of one that no text of the catalog refers to.
+abbrev pub HasLoneTerms : Ids (Unit {0}) → List File → List FileFinding → Type 0
+HasLoneTerms ids files fs = All (λ f. is_unused f ≡ true → IsOfLoneTerm (IsReferredIn (sources files)) f) fs

@@ -16,6 +16,7 @@ pub mod Files
 pub mod Finding
 pub mod FlawWords
 pub mod NearNames
+pub mod NearLaws
 pub mod Misuses
 pub mod Letters
 pub mod Quoted
@@ -42,4 +43,7 @@ pub mod Output
 pub mod PlaceLaws
 pub mod FindingLaws
 pub mod FactLaws
+pub mod HintLaws
+pub mod MisuseLaws
+pub mod CategoryLaws
 pub mod ReportLaws

@@ -48,6 +48,15 @@ is_taken plurals rule c =
     || (is_category_of plurals rule c (read_number (codes "1000000"))
     || is_category_of plurals rule c (read_number (codes "1.5")))
 
+-- Whether nothing but `one` and `two` is common beside `other`. Then, as in Hebrew, few nouns have a form for two.
+abbrev pub is_lone_two : LanguagePlurals → PluralRuleType → PluralCategory → Bool
+is_lone_two plurals rule TWO = not (is_common plurals rule ZERO || (is_common plurals rule FEW || is_common plurals rule MANY))
+is_lone_two plurals rule c = false
+
+-- whether a select should have a variant for a category
+abbrev pub is_asked : LanguagePlurals → PluralRuleType → PluralCategory → Bool
+is_asked plurals rule c = is_common plurals rule c && not (is_lone_two plurals rule c)
+
 -- ---- what a select has
 
 abbrev pub variant_keys : Variants → List VariantKey
@@ -92,11 +101,11 @@ selector_rule _ = CARDINAL
 
 -- ---- what a select lacks
 
--- A select that has a variant for a category, other than `other`, lacks those that are common and that it has no
--- variant for.
+-- A select that has a variant for a category, other than `other`, lacks those that it should have and has no variant
+-- for.
 abbrev pub missing_categories : LanguagePlurals → Inline → Variants → List PluralCategory
 missing_categories plurals selector vs =
     let keys = variant_keys vs in
     if list_any (has_category keys) categories
-    then filter (λ c. not (has_category keys c) && is_common plurals (selector_rule selector) c) categories
+    then filter (λ c. not (has_category keys c) && is_asked plurals (selector_rule selector) c) categories
     else []

@@ -1,7 +1,10 @@
 //! Laws of findings: each function only carries a law, as its contract.
 
 ghost use Rattle.lint_findings.specs.FactLaws.{FactsAreTrue, MissingVariablesAreShown};
-ghost use Rattle.lint_findings.specs.FindingLaws.{HasErrors, HasLostVariants, HasReferences, OfCatalogs, OfTranslations};
+ghost use Rattle.lint_findings.specs.FindingLaws.{HasErrors, HasLoneTerms, HasLostVariants, HasReferences, OfCatalogs, OfTranslations};
+ghost use Rattle.lint_findings.specs.HintLaws.{DifferenceHintsAreSo, FactHintsAreSo, FlawHintsAreSo};
+ghost use Rattle.lint_findings.specs.MisuseLaws.{MisuseHintsAreSo, MisusesAreTrue};
+ghost use Rattle.lint_findings.specs.NearLaws.{NearestIsThere};
 ghost use Rattle.lint_findings.specs.PlaceLaws.{OccurrencesAreRead, OccurrencesAreTheNodes, PatternsHavePlaces, PositionsDetermineOffsets, TilesAreTheList, TilesHaveTheErrors};
 ghost use Rattle.lint_findings.specs.QuotedLaws.{QuotedAreSpelled};
 ghost use Rattle.lint_findings.specs.ReportLaws.{CatalogsOverrideNothing, CleanCatalogsAreFlawless, CleanTranslationsAreFlawless, FlawlessCatalogsAnswer, NothingMissingAnswersAll, TranslationsAnswerAll, TranslationsOverrideNothing};
@@ -47,10 +50,40 @@ pub fn quoted_placeables_are_spelled()
 {}
 
 /// What is said of a node beside its errors is so: a literal has the placeable, a term has no such
-/// variable in any of its texts, no select on the variable has a variant with this key, and no
-/// whole number below 1,000 is of the category.
+/// variable in any of its texts, no select on the variable has a variant with this key, no whole
+/// number below 1,000 is of the category, and a key that is nearly a category is none, but a slip
+/// of the keyboard away from the name of one.
 pub fn facts_are_true<F>()
     ensures { FactsAreTrue F }
+{}
+
+/// What is found wrong with an argument of `NUMBER` or `DATETIME` is so: the function has no such
+/// option, the option doesn't take such a value, or the call has the style next to which it doesn't
+/// count.
+pub fn misuses_are_true()
+    ensures { MisusesAreTrue }
+{}
+
+/// A name that is found as the nearest one is known, and a slip of the keyboard away: two
+/// neighbouring bytes are swapped, or one is left out, replaced or added.
+pub fn near_names_are_there()
+    ensures { NearestIsThere }
+{}
+
+/// What a hint names is there: a message, a term, an attribute, a variable, a variant, a category,
+/// an option, or a value that the option takes. A name that may be meant is a slip away.
+pub fn hints_are_so<F>()
+    ensures flaws { FlawHintsAreSo F }
+    ensures facts { FactHintsAreSo F }
+    ensures misuses { MisuseHintsAreSo }
+    ensures differences { DifferenceHintsAreSo }
+{}
+
+/// For each finding with the code `unused-term`, no text of the catalog refers to the term that it
+/// is of, which is read in the source of its file.
+pub fn unused_terms_are_unused()
+    ensures catalogs { OfCatalogs HasLoneTerms }
+    ensures translations { OfTranslations HasLoneTerms }
 {}
 
 /// The message of the reference shows each variable that is reported as missing, in some variant

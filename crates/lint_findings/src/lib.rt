@@ -7,4 +7,5 @@
 //! `docs/reference/lint.md` has the same rules in plain words.
 #![tactic(auto)]
 
+pub mod category_laws;
 pub mod laws;

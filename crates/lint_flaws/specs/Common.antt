@@ -1,5 +1,5 @@
 -- The plural categories that common numbers have, as code lists them.
-use Rattle.std.specs.Prelude.{◌≡◌, Bool, Option, Some, None}
+use Rattle.std.specs.Prelude.{◌≡◌, Bool, false, not, ◌&&◌, ◌||◌, Option, Some, None}
 use Rattle.fluent_number.specs.declared.plural.PluralCategory.{PluralCategory}
 use Rattle.fluent_number.specs.declared.plural.PluralCategory.TheVariants.{ZERO, ONE, TWO, FEW, MANY, OTHER}
 use Rattle.fluent_number.specs.declared.plural.PluralRuleType.{PluralRuleType}
@@ -22,6 +22,15 @@ has these OTHER = these.other
 abbrev pub is_listed : CommonCategories → PluralRuleType → PluralCategory → Bool
 is_listed common CARDINAL c = has common.cardinal c
 is_listed common ORDINAL c = has common.ordinal c
+
+-- whether this is `two`, and nothing but `one` and `two` is listed beside `other`
+abbrev pub is_lone_two : CommonCategories → PluralRuleType → PluralCategory → Bool
+is_lone_two common rule TWO = not (is_listed common rule ZERO || (is_listed common rule FEW || is_listed common rule MANY))
+is_lone_two common rule c = false
+
+-- whether a select should have a variant for a category
+abbrev pub asks : CommonCategories → PluralRuleType → PluralCategory → Bool
+asks common rule c = is_listed common rule c && not (is_lone_two common rule c)
 
 -- just those are listed that are common in a language
 abbrev pub AreCommon : LanguagePlurals → CommonCategories → Type 0

@@ -4,7 +4,7 @@
 ghost use Rattle.std.specs.Prelude.{◌≡◌};
 ghost use Rattle.fluent_number.specs.declared.plural.PluralCategory.{PluralCategory};
 ghost use Rattle.lint_findings.specs.MissingCategories as m;
-ghost use Rattle.lint_flaws.specs.Common.{AreCommonBy, has, is_listed};
+ghost use Rattle.lint_flaws.specs.Common.{AreCommonBy, asks, has, is_listed, is_lone_two};
 
 use crate::rules::is_common;
 use fluent_number::{PluralCategory, PluralRuleType};
@@ -84,8 +84,29 @@ impl CommonCategories {
         }
     }
 
+    /// Whether a select should have a variant for a category, by rules of this kind: it is one of
+    /// them, and not `two` where nothing but `one` and `two` is one.
+    pub(crate) fn asks(&self, rule: PluralRuleType, category: PluralCategory) -> bool
+        ensures { result ≡ asks self.now rule category }
+    {
+        self.has(rule, category) && !self.is_lone_two(rule, category)
+    }
+
+    fn is_lone_two(&self, rule: PluralRuleType, category: PluralCategory) -> bool
+        ensures { result ≡ is_lone_two self.now rule category }
+    {
+        match category {
+            PluralCategory::TWO => {
+                !(self.has(rule, PluralCategory::ZERO)
+                    || (self.has(rule, PluralCategory::FEW)
+                        || self.has(rule, PluralCategory::MANY)))
+            }
+            _ => false,
+        }
+    }
+
     /// Whether a category is one of them, by rules of this kind.
-    pub(crate) fn has(&self, rule: PluralRuleType, category: PluralCategory) -> bool
+    fn has(&self, rule: PluralRuleType, category: PluralCategory) -> bool
         ensures { result ≡ is_listed self.now rule category }
     {
         match rule {

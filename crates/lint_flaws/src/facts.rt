@@ -9,12 +9,13 @@ ghost use Rattle.lint_flaws.specs.FactsBy.{IsOnFact};
 ghost use Rattle.lint_flaws.specs.Said.{AddsFacts};
 
 use crate::adding::push_remark;
+use crate::attribute_texts::push_attribute_keys;
 use crate::hint::near_hint;
 use crate::near::KnownNames;
 use crate::plural_keys::push_select;
 use crate::quoted::{Quoted, first_quoted};
 use crate::term_uses::{Values, Variables, chooses_by_words, term_nodes};
-use fluent_ast::{InlineExpression, NamedArgument};
+use fluent_ast::{InlineExpression, NamedArgument, Variant};
 use fluent_ids::Entry;
 use fluent_plurals::LanguagePlurals;
 use fluent_tokens::unicode::unescape_unicode_to_string;
@@ -40,11 +41,28 @@ pub fn push_facts(
 {
     match node {
         Node::Expression(expression) => push_expression(alloc, ids, expression, found),
-        Node::Select { selector, variants } => match plurals {
-            Some(plurals) => push_select(alloc, &plurals, selector, variants, found),
-            None => Ok(()),
-        },
+        Node::Select { selector, variants } => {
+            push_plural_keys(alloc, plurals, selector, variants, found)?;
+            push_attribute_keys(alloc, ids, selector, variants, found)
+        }
         Node::RepeatedKey(_) => Ok(()),
+    }
+}
+
+/// Adds what is said of the keys of a select by the rules of a language, if they are known.
+fn push_plural_keys(
+    alloc: Global,
+    plurals: Option<LanguagePlurals>,
+    selector: &InlineExpression<&str>,
+    variants: &[Variant<&str>],
+    found: &mut Vec<Remark>,
+) -> Result<(), AllocError>
+    ensures { OnOk result (AddsFacts (by.plural_facts plurals selector.now variants.now)
+        found.old found.new) }
+{
+    match plurals {
+        Some(plurals) => push_select(alloc, &plurals, selector, variants, found),
+        None => Ok(()),
     }
 }
 

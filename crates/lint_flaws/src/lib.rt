@@ -12,6 +12,7 @@
 #![tactic(auto)]
 
 mod adding;
+mod attribute_texts;
 mod builtins;
 mod characters;
 mod common;

@@ -50,8 +50,8 @@ pub fn node_categories(
     }
 }
 
-/// The categories that a select lacks: if it has a variant for one, the common ones that it has
-/// none for.
+/// The categories that a select lacks: if it has a variant for one, those that it should have and
+/// has none for.
 fn missing_categories(
     alloc: Global,
     common: &CommonCategories,
@@ -81,7 +81,7 @@ fn missing_among(
     lacking(alloc, categories, common, rule, variants)
 }
 
-/// Those of these categories that are common and that no variant is for.
+/// Those of these categories that a select should have and that no variant is for.
 fn lacking(
     alloc: Global,
     categories: &[PluralCategory],
@@ -95,7 +95,7 @@ fn lacking(
     categories
         .iter()
         .copied()
-        .filter(|category| !has_variant(variants, *category) && common.has(rule, *category))
+        .filter(|category| !has_variant(variants, *category) && common.asks(rule, *category))
         .collect(alloc)
 }
 

@@ -223,7 +223,8 @@ fn node_has_key(node: Node<'_, '_>, variable: &str, key: &str) -> bool
     }
 }
 
-fn has_variant(variants: &[Variant<&str>], key: &str) -> bool
+/// Whether one of these variants has this key.
+pub fn has_variant(variants: &[Variant<&str>], key: &str) -> bool
     ensures { result ≡ list_any (u.is_key key.now) (variant_keys (variants_of variants.now)) }
 {
     for variant in variants {

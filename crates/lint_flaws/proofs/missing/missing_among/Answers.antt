@@ -6,7 +6,7 @@ use Rattle.fluent_number.specs.declared.plural.PluralCategory.{PluralCategory}
 use Rattle.fluent_number.specs.declared.plural.PluralRuleType.{PluralRuleType}
 use Rattle.fluent_ast.specs.Borrowed.{inline_of, variants_of}
 use Rattle.lint_findings.specs.MissingCategories.{variant_keys, has_category, selector_rule}
-use Rattle.lint_flaws.specs.Common.{is_listed}
+use Rattle.lint_flaws.specs.Common.{asks}
 use Rattle.lint_flaws.specs.MissingAmong.{lacks, missing_among}
 use Rattle.lint_flaws.proofs.missing.missing_among.Goals as goal
 
@@ -20,5 +20,5 @@ with_any categories common selector vs rule any same is there =
 pub returns : goal.returns
 returns c =
     let P : List PluralCategory → Type 0 = λ xs. IfOk c.lacking.result (λ missing. missing.items ≡ xs) in
-    subst P (with_any c.args.categories.now (is_listed c.args.common.now) (inline_of c.args.selector.now) (variants_of c.args.variants.now) c.in_ok-rule.rule c.has_any.result c.in_ok-rule.ensures c.has_any.ensures c.if-not-has_any.false)
+    subst P (with_any c.args.categories.now (asks c.args.common.now) (inline_of c.args.selector.now) (variants_of c.args.variants.now) c.in_ok-rule.rule c.has_any.result c.in_ok-rule.ensures c.has_any.ensures c.if-not-has_any.false)
     c.lacking.ensures

@@ -1,0 +1,15 @@
+use Rattle.std.proofs.Common.{◌≡◌, ◌++◌, map, drop}
+use Rattle.fluent_ast.specs.View.{variant_view, variants_of}
+use Rattle.lint_finding.specs.View.{remark_view}
+use Rattle.lint_findings.specs.Facts.{fact_remark, others_facts}
+use Rattle.lint_flaws.specs.FactsBy.{keys_of}
+use Rattle.lint_flaws.proofs.attribute_texts.push_keys.Given as goal
+
+abbrev pub invariant-loop-variant : goal.invariant-loop-variant
+invariant-loop-variant l =
+    let view = variant_view _ (λ s. s.now) in
+    let id = l.attribute.id.now in
+    let name = l.attribute.name.now in
+    let text = l.attribute.text.now in
+    map remark_view l.found.items ++ map fact_remark (others_facts id name (keys_of l.attribute) text (variants_of (map view (drop l.variant-index l.variants))))
+    ≡ map remark_view l.initial.found.items ++ map fact_remark (others_facts id name (keys_of l.attribute) text (variants_of (map view l.variants)))
