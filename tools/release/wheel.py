@@ -49,7 +49,7 @@ def record(files, name):
 
 # The commands of the package, as pyproject.toml has them, and the pages that explain the codes of findings.
 SCRIPTS = re.compile(r'^\[project\.scripts\]\n((?:[\w-]+ = "[\w.:]+"\n)+)', re.M)
-PAGES = ('reference/lint.md', 'command/editors.md')
+PAGES = ('reference/codes.md', 'reference/lint.md', 'command/editors.md')
 
 
 def entry_points(bindings):

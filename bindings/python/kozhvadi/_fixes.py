@@ -5,13 +5,14 @@ from __future__ import annotations
 import re
 from collections.abc import Iterable
 from difflib import get_close_matches
-from typing import NamedTuple
 
 from ._builtins import BUILTINS
+from ._change import Fix
 from ._linting import Finding
 from ._places import Places
 from ._samples import Catalog
 from ._scan import Select
+from ._word_fixes import argument_fixes, character_fixes, key_fixes, quote_fixes
 
 _TOKEN = re.compile(rb"[$.-]?[A-Za-z][A-Za-z0-9_-]*(?:\.[A-Za-z][A-Za-z0-9_-]*)?|-?[0-9]+(?:\.[0-9]+)?")
 _CHARACTER = re.compile(rb"[^\r\n][\x80-\xbf]*")
@@ -22,15 +23,6 @@ _MISSING = ("unknown-message", "unknown-term", "unknown-attribute", "unknown-var
 
 # How much of a name a near one has.
 _NEAR = 0.7
-
-
-class Fix(NamedTuple):
-    """A change of a source that mends a finding: the bytes between two offsets become a text."""
-
-    title: str
-    start: int
-    end: int
-    text: str
 
 
 def extent(source: bytes, offset: int) -> tuple[int, int]:
@@ -62,10 +54,8 @@ def fixes(
 
     A variable of a message that is referred to is found at the id of the other message: there is nothing to change there.
     """
-    if finding.code == "missing-category":
-        return _with_variant(finding, places)
     if finding.code not in _MISSING:
-        return []
+        return _of_words(finding, places)
     start, end = extent(places.source, finding.offset)
     written = places.source[start:end].decode()
     if finding.code == "unknown-variable" and not written.startswith("$"):
@@ -75,6 +65,27 @@ def fixes(
     sure = [name for name in named if name in known]
     names = dict.fromkeys([*sure, *get_close_matches(written, known, 3, _NEAR), *named])
     return [Fix(f"Change to `{name}`", start, end, name) for name in names if name != written]
+
+
+def _of_words(finding: Finding, places: Places) -> list[Fix]:
+    """How what readers see is mended."""
+    source, offset = places.source, finding.offset
+    match finding.code:
+        case "missing-category":
+            return _with_variant(finding, places)
+        case "unknown-category":
+            return key_fixes(finding, _select_at(places, offset), source)
+        case "unknown-term-variant":
+            return key_fixes(finding, _select_at(places, offset), source) or argument_fixes(finding, source, "string")
+        case "unknown-term-argument":
+            return argument_fixes(finding, source, "name")
+        case "placeable-in-literal":
+            return quote_fixes(finding, source)
+        case "zero-width" | "control-character":
+            return character_fixes(finding, source)
+        case "unbalanced-direction" if finding.text.endswith("ends nothing"):
+            return character_fixes(finding, source)
+    return []
 
 
 def _known(finding: Finding, written: str, catalog: Catalog, reference: Catalog, functions: Iterable[str]) -> list[str]:

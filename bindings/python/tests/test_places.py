@@ -7,6 +7,7 @@ from pathlib import Path
 
 from kozhvadi import lint
 from kozhvadi._fixes import extent, fixes
+from kozhvadi._linting import Finding
 from kozhvadi._occurrences import Symbol
 from kozhvadi._places import Places
 from kozhvadi._positions import Lines, utf16_length
@@ -340,6 +341,43 @@ class FixesTest(unittest.TestCase):
             self.fixed("b = x\n    .title = y\na = { b.titel }\n"), "b = x\n    .title = y\na = { b.title }\n"
         )
         self.assertEqual(self.fixed("a = { -quite-another }\n"), "a = { -quite-another }\n")
+
+    def test_keys(self):
+        self.assertEqual(
+            self.fixed("a = { $n ->\n    [oen] x\n   *[otehr] { $n }\n}\n", locale="de"),
+            "a = { $n ->\n    [one] x\n   *[other] { $n }\n}\n",
+        )
+        lacking = "a = { $n ->\n    [one] x\n    [few] y\n   *[other] { $n }\n}\n"
+        self.assertEqual(self.fixed(lacking, locale="de"), lacking)
+
+    def test_keys_of_attributes(self):
+        source = b"-b = x\n    .genus = neuter\na = { -b.genus ->\n    [neutre] y\n   *[other] z\n}\n"
+        at, key = source.index(b"-b.genus"), source.index(b"neutre")
+        told = ("warning", "unknown-term-variant", "a", "`-b.genus` is never `neutre`")
+        places = Places(source)
+        found = fixes(Finding("a", 3, 7, at, *told, "did you mean `neuter`?"), places, Catalog([places]), Catalog([]))
+        self.assertEqual([tuple(each) for each in found], [("Change to `neuter`", key, key + 6, "neuter")])
+        self.assertEqual(fixes(Finding("a", 3, 7, at, *told, "it is `neuter`"), places, Catalog([places]), Catalog([])), [])
+
+    def test_arguments_of_terms(self):
+        term = "-b = { $case ->\n   *[nominative] x\n    [genitive] y\n}\n"
+        self.assertEqual(
+            self.fixed(f'{term}a = {{ -b(cas: "genitive") }}, {{ -b( case : "genitve") }}\n'),
+            f'{term}a = {{ -b(case: "genitive") }}, {{ -b( case : "genitive") }}\n',
+        )
+        unknown = f'{term}a = {{ -b(x: "genitive") }}, {{ -b(case: "dative") }}\n'
+        self.assertEqual(self.fixed(unknown), unknown)
+
+    def test_placeables_in_quotes(self):
+        self.assertEqual(self.fixed('a = { "{ $n } items" } { "of {-b}" }\n-b = B\n'), "a = { $n } items of {-b}\n-b = B\n")
+        for kept in ['a = { " { $n }" }', 'a = { "{ $n } \\u00e9" }', 'a = { "{ $n } {" }', 'a = { F("{ $n }") }']:
+            with self.subTest(kept):
+                self.assertEqual(self.fixed(f"{kept}\n"), f"{kept}\n")
+
+    def test_characters(self):
+        self.assertEqual(self.fixed("a = b\u200bc\u0007\u2069\n"), "a = bc\n")
+        kept = "a = b\ufffdc\u2066d\rx\n"
+        self.assertEqual(self.fixed(kept), kept)
 
     def test_missing_categories(self):
         self.assertEqual(

@@ -1,5 +1,6 @@
 """What users of other language servers expect of one, over the protocol."""
 
+import re
 import subprocess
 import time
 import unittest
@@ -167,6 +168,13 @@ class RelatedTest(ExpectedCase):
         for each in found:
             path, _, line = each["codeDescription"]["href"].removeprefix("file://").partition("#L")
             self.assertIn(f"`{each['code']}`", Path(path).read_text(encoding="utf-8").split("\n")[int(line) - 1])
+
+    def test_each_code_of_lint_has_a_section(self):
+        top = Path(__file__).resolve().parents[3]
+        source = (top / "crates/ftl_arguments/src/linting.rt").read_text("utf-8")
+        listed = re.search(r"const CODES: .*?\];", source, re.DOTALL)
+        sections = re.findall(r"^### `(.*)`$", (top / "docs/reference/codes.md").read_text("utf-8"), re.MULTILINE)
+        self.assertEqual(sorted(sections), sorted(re.findall(r'"([a-z-]+)"', listed[0])))
 
 
 class RenamedFilesTest(ExpectedCase):
