@@ -16,7 +16,7 @@ from . import _dates
 from . import _library as c
 from ._answers import Answer, resolver_errors
 from ._errors import FluentError, FluentWarning, MissingMessageError, SourceError, UnknownLocaleError
-from ._extension import calls_type
+from ._extension import calls_type, quick
 from ._functions import Answers, Called, Functions, called_of, each_call, functions_of, rewriting_of, told_apart, with_dates
 from ._kept import Asking, Kept, kept_of, read
 from ._numbers import FluentNumber
@@ -164,6 +164,8 @@ class Bundle:
         # The extension takes numbers without their options, so it isn't for a bundle that shows them.
         new_calls = None if shows else calls_type
         self._calls = new_calls(kept.address, kept, kept.lock) if new_calls else None
+        # It answers what is usual, once no answer warns of the sources any more.
+        self._quick: object = None
 
     def _new(self, named: Sources, tag: bytes) -> tuple[int, Kept]:
         """What the library keeps of the sources, and its status."""
@@ -220,6 +222,7 @@ class Bundle:
         alone = Kept([])
         return read([text], Asking(b"", True, self._overriding, False, self._stack, []), alone.handle) == c.READ
 
+    @quick
     def format(self, id: str, attribute: str | None = None, /, **arguments: object) -> Answer:
         """The text of a message's value, or of its first attribute of a name, for these arguments.
 
@@ -391,7 +394,7 @@ class Bundle:
             if self._is_unread:
                 self._errors += source_errors(self._report(), self._sources, self._overriding)
                 self._is_unread = False
-            self._warns = False
+            self._hush()
             return list(self._errors)
 
     def _report(self) -> list[str]:
@@ -420,8 +423,9 @@ class Bundle:
             c.library.fluent_free_text(text)
 
     def _hush(self) -> None:
-        """Warns of no error: the program reports them in another way, or wants none of them."""
+        """Warns of no error: the program has them, reports them in another way, or wants none of them."""
         self._warns = False
+        self._quick = self._calls
 
     def _warn(self) -> None:
         """Warns of the errors of the sources, at which nobody has looked. Of the threads that ask at first one warns."""

@@ -7,8 +7,14 @@
 #define PY_SSIZE_T_CLEAN
 #define Py_LIMITED_API 0x030A0000
 #include <Python.h>
+#include <structmember.h>
 
 #include <fluent_c.h>
+
+/* The stable ABI has this flag since 3.12. In 3.10 and 3.11 it is the same. */
+#ifndef Py_TPFLAGS_HAVE_VECTORCALL
+#define Py_TPFLAGS_HAVE_VECTORCALL (1UL << 11)
+#endif
 
 /* More arguments than these are not on the stack. */
 #define FEW 8
@@ -35,6 +41,10 @@ struct Found {
     PyObject *resolver_errors;
     PyObject *kind_and_text;
     PyObject *encoded;
+    PyObject *method;
+    /* The type of calls, and the name under which a bundle has them once nothing is left to warn of. */
+    PyObject *calls_type;
+    PyObject *quick;
 };
 
 /* The calls of one bundle, and the memory of its answers, which is under the bundle's lock too. */
@@ -407,6 +417,53 @@ static PyObject *format(PyObject *self, PyObject *const *given, Py_ssize_t count
     return made;
 }
 
+/* The argument of a name and of a value that is a text or an integer. It is false, without an error, if it has to be made in another
+ * way. */
+static bool is_usual(PyObject *name, PyObject *value, struct FluentArgument *argument) {
+    Py_ssize_t name_len, text_len = 0;
+    const char *key = PyUnicode_AsUTF8AndSize(name, &name_len), *text = "";
+    int64_t integer = 0;
+    bool is_text = PyUnicode_CheckExact(value);
+    int overflow = !is_text && !PyLong_CheckExact(value);
+    if (key && is_text)
+        text = PyUnicode_AsUTF8AndSize(value, &text_len);
+    else if (key && !overflow)
+        integer = PyLong_AsLongLongAndOverflow(value, &overflow);
+    if (!key || !text || overflow) {
+        PyErr_Clear();
+        return false;
+    }
+    *argument = (struct FluentArgument){
+        .name = (const uint8_t *)key, .name_len = (size_t)name_len, .text = (const uint8_t *)text, .text_len = (size_t)text_len,
+        .integer = integer, .kind = is_text ? FLUENT_TEXT : FLUENT_INTEGER};
+    return true;
+}
+
+/* The answer to what is usual: texts and integers for a text that is written into the room. It is NULL, without an error, if the
+ * answer has to be found in another way. */
+static PyObject *quickly(struct Calls *calls, PyObject *const *given, Py_ssize_t count, PyObject *keywords) {
+    struct FluentArgument list[FEW];
+    struct Arguments arguments = {.count = keywords ? PyTuple_Size(keywords) : 0, .list = list};
+    PyObject *names[] = {given[0], count == 2 ? given[1] : Py_None};
+    struct FluentPattern pattern;
+    if (count > 2 || arguments.count > FEW || !calls->found->answer || !names_of(calls->found, names, &pattern))
+        return NULL;
+    for (Py_ssize_t each = 0; each < arguments.count; each++)
+        if (!is_usual(PyTuple_GetItem(keywords, each), given[count + each], &list[each]))
+            return NULL;
+    struct Said said = {0};
+    if (!lock(calls->acquire))
+        return NULL;
+    bool has_lines = is_written(calls, given[0], &pattern, &arguments, &said) && calls->errors.held;
+    if (has_lines)
+        said.lines = string_of(&calls->errors);
+    bool is_whole = lock(calls->release) && said.text && (said.lines || !has_lines);
+    PyObject *made = is_whole ? answer_of(calls->found, NULL, said.text, said.lines) : NULL;
+    Py_XDECREF(said.text);
+    Py_XDECREF(said.lines);
+    return made;
+}
+
 /* has(id, attribute): the status. */
 static PyObject *has(PyObject *self, PyObject *const *given, Py_ssize_t count) {
     struct Calls *calls = (struct Calls *)self;
@@ -496,6 +553,124 @@ static PyType_Spec calls_spec = {
     .slots = calls_slots,
 };
 
+/* A method of bundles, which answers what is usual itself, and calls the function that it wraps for the rest. As a method in Python
+ * it is called without a tuple and a dictionary of its arguments, and is bound when it is taken from a bundle. */
+struct Quick {
+    PyObject_HEAD
+    PyObject *(*called)(PyObject *self, PyObject *const *given, size_t count, PyObject *keywords);
+    struct Found *found;
+    PyObject *function;
+    PyObject *attributes;
+};
+
+/* Calls the function. */
+static PyObject *fully(PyObject *function, PyObject *const *given, Py_ssize_t count, PyObject *keywords) {
+    PyObject *positional = PyTuple_New(count), *named = keywords ? PyDict_New() : NULL;
+    bool are_made = positional && (named || !keywords);
+    for (Py_ssize_t each = 0; are_made && each < count; each++) {
+        Py_INCREF(given[each]);
+        PyTuple_SetItem(positional, each, given[each]);
+    }
+    for (Py_ssize_t each = 0; are_made && keywords && each < PyTuple_Size(keywords); each++)
+        are_made = PyDict_SetItem(named, PyTuple_GetItem(keywords, each), given[count + each]) == 0;
+    PyObject *made = are_made ? PyObject_Call(function, positional, named) : NULL;
+    Py_XDECREF(positional);
+    Py_XDECREF(named);
+    return made;
+}
+
+/* What a bundle answers, of which the calls may be asked: the bundle is the first of what is given. */
+static PyObject *call_method(PyObject *self, PyObject *const *given, size_t count, PyObject *keywords) {
+    struct Quick *quick = (struct Quick *)self;
+    /* The highest bit says that the caller lends the place before the first. */
+    Py_ssize_t positional = (Py_ssize_t)(count & ~((size_t)1 << (8 * sizeof count - 1)));
+    PyObject *calls = positional > 1 && quick->found->quick ? PyObject_GetAttr(given[0], quick->found->quick) : NULL;
+    PyObject *made = NULL;
+    if (!calls)
+        PyErr_Clear();
+    else if ((PyObject *)Py_TYPE(calls) == quick->found->calls_type)
+        made = quickly((struct Calls *)calls, given + 1, positional - 1, keywords);
+    Py_XDECREF(calls);
+    return made || PyErr_Occurred() ? made : fully(quick->function, given, positional, keywords);
+}
+
+/* The call by a tuple and a dictionary. */
+static PyObject *call_by_objects(PyObject *self, PyObject *positional, PyObject *named) {
+    return PyObject_Call(((struct Quick *)self)->function, positional, named);
+}
+
+/* The method of a bundle, or the function if it is taken from the class. */
+static PyObject *bound(PyObject *self, PyObject *bundle, PyObject *type) {
+    (void)type;
+    struct Quick *quick = (struct Quick *)self;
+    if (bundle && bundle != Py_None && quick->found->method)
+        return PyObject_CallFunctionObjArgs(quick->found->method, self, bundle, NULL);
+    Py_INCREF(quick->function);
+    return quick->function;
+}
+
+static PyObject *new_quick(PyTypeObject *type, PyObject *arguments, PyObject *keywords) {
+    PyObject *function;
+    if (keywords && PyDict_Size(keywords)) {
+        PyErr_SetString(PyExc_TypeError, "Quick takes no keywords");
+        return NULL;
+    }
+    if (!PyArg_ParseTuple(arguments, "O", &function))
+        return NULL;
+    struct Quick *quick = (struct Quick *)PyType_GenericAlloc(type, 0);
+    if (!quick)
+        return NULL;
+    quick->called = call_method;
+    quick->found = PyType_GetModuleState(type);
+    Py_INCREF(function);
+    quick->function = function;
+    return (PyObject *)quick;
+}
+
+static void free_quick(PyObject *self) {
+    PyTypeObject *type = Py_TYPE(self);
+    Py_XDECREF(((struct Quick *)self)->function);
+    Py_XDECREF(((struct Quick *)self)->attributes);
+    PyObject_Free(self);
+    Py_DECREF(type);
+}
+
+/* The class, for who asks whether this is a function: a tool that replaces methods treats it as one then. */
+static PyObject *class_of_function(PyObject *self, void *none) {
+    (void)none;
+    PyObject *type = (PyObject *)Py_TYPE(((struct Quick *)self)->function);
+    Py_INCREF(type);
+    return type;
+}
+
+static PyGetSetDef quick_gets[] = {
+    {"__class__", class_of_function, NULL, NULL, NULL},
+    {NULL, NULL, NULL, NULL, NULL},
+};
+
+static PyMemberDef quick_members[] = {
+    {"__vectorcalloffset__", T_PYSSIZET, offsetof(struct Quick, called), READONLY, NULL},
+    {"__dictoffset__", T_PYSSIZET, offsetof(struct Quick, attributes), READONLY, NULL},
+    {NULL, 0, 0, 0, NULL},
+};
+
+static PyType_Slot quick_slots[] = {
+    {Py_tp_new, new_quick},
+    {Py_tp_dealloc, free_quick},
+    {Py_tp_call, call_by_objects},
+    {Py_tp_descr_get, bound},
+    {Py_tp_getset, quick_gets},
+    {Py_tp_members, quick_members},
+    {0, NULL},
+};
+
+static PyType_Spec quick_spec = {
+    .name = "kozhvadi._fast.Quick",
+    .basicsize = sizeof(struct Quick),
+    .flags = Py_TPFLAGS_DEFAULT | Py_TPFLAGS_HAVE_VECTORCALL | Py_TPFLAGS_METHOD_DESCRIPTOR,
+    .slots = quick_slots,
+};
+
 /* What a module has under a name. */
 static PyObject *attribute_of(const char *module, const char *name) {
     PyObject *imported = PyImport_ImportModule(module);
@@ -528,14 +703,17 @@ static int fill_module(PyObject *module) {
         || !(found->each_call = attribute_of("kozhvadi._functions", "each_call"))
         || !(found->resolver_errors = attribute_of("kozhvadi._answers", "resolver_errors"))
         || !(found->kind_and_text = attribute_of("kozhvadi._values", "kind_and_text"))
-        || !(found->encoded = attribute_of("kozhvadi._values", "encoded")))
+        || !(found->encoded = attribute_of("kozhvadi._values", "encoded"))
+        || !(found->method = attribute_of("types", "MethodType"))
+        || !(found->quick = PyUnicode_InternFromString("_quick"))
+        || !(found->calls_type = PyType_FromModuleAndSpec(module, &calls_spec, NULL)))
         return -1;
-    PyObject *type = PyType_FromModuleAndSpec(module, &calls_spec, NULL);
+    PyObject *type = PyType_FromModuleAndSpec(module, &quick_spec, NULL);
     if (!type)
         return -1;
-    int added = PyModule_AddObjectRef(module, "Calls", type);
+    int added = PyModule_AddObjectRef(module, "Quick", type);
     Py_DECREF(type);
-    return added;
+    return added < 0 ? added : PyModule_AddObjectRef(module, "Calls", found->calls_type);
 }
 
 static int visit_module(PyObject *module, visitproc visit, void *arg) {
@@ -546,6 +724,8 @@ static int visit_module(PyObject *module, visitproc visit, void *arg) {
     Py_VISIT(found->resolver_errors);
     Py_VISIT(found->kind_and_text);
     Py_VISIT(found->encoded);
+    Py_VISIT(found->method);
+    Py_VISIT(found->calls_type);
     return 0;
 }
 
@@ -557,6 +737,9 @@ static int clear_module(PyObject *module) {
     Py_CLEAR(found->resolver_errors);
     Py_CLEAR(found->kind_and_text);
     Py_CLEAR(found->encoded);
+    Py_CLEAR(found->method);
+    Py_CLEAR(found->calls_type);
+    Py_CLEAR(found->quick);
     return 0;
 }
 

@@ -7,7 +7,7 @@ use crate::custom::{Customs, Transform};
 use crate::date_time::{shown_in, Locales};
 use crate::entries::{Asking, Entries, Held};
 use crate::errors::{EntryKind, FluentError};
-use crate::fixed::{Known, KnownTexts};
+use crate::fixed::{Known, KnownTexts, Varies};
 use crate::kept::{Kept, Refusal, Settings};
 use crate::memoizer::IntlLangMemoizer;
 use crate::message::{FluentMessage, Message, Pattern};
@@ -23,9 +23,8 @@ use std::cell::RefCell;
 use std::collections::HashMap;
 use std::error::Error;
 use std::fmt;
-use std::sync::atomic::{AtomicBool, Ordering};
 use std::sync::{Arc, Mutex, OnceLock, PoisonError};
-use std::thread;
+use std::{mem, thread};
 
 /// A bundle of resources, by which their messages are formatted.
 ///
@@ -320,13 +319,14 @@ impl<R: Borrow<FluentResource>, M> FluentBundle<R, M> {
     }
 
     /// The message of an id.
+    #[inline]
     pub fn get_message<'l>(&'l self, id: &str) -> Option<FluentMessage<'l>> {
         self.message(id).map(FluentMessage::of)
     }
 
     /// The messages with their ids, in the order in which each id came first.
     pub fn messages(&self) -> impl Iterator<Item = (&str, FluentMessage<'_>)> {
-        self.entries.ids().iter().filter_map(|id| Some((&**id, self.get_message(id)?)))
+        self.entries.messages().map(|(id, message)| (id, FluentMessage::of(message)))
     }
 
     /// The variables that the message of an id is shown with, each once, or `None` if there is no such message.
@@ -361,15 +361,20 @@ impl<R: Borrow<FluentResource>, M> FluentBundle<R, M> {
         args: Option<&FluentArgs<'_>>,
         errors: &mut Vec<FluentError>,
     ) -> Cow<'bundle, str> {
-        let mut room = ShortText::none();
-        match self.quickly(pattern, args, errors, &mut room) {
-            Quick::Fixed(text) => Cow::Borrowed(text),
-            Quick::Written => Cow::Owned(room.as_str().to_owned()),
-            Quick::Not => Cow::Owned(match self.formatted(pattern, args, errors, |text| text.as_str().to_owned()) {
-                Some(Formatted::Taken(text) | Formatted::Shown(text)) => text,
-                None => reference(pattern),
-            }),
+        match self.known(pattern) {
+            Some(Known::Fixed(text)) => return Cow::Borrowed(text),
+            Some(Known::Varies(varies)) => {
+                let mut room = ShortText::none();
+                if self.is_written(varies, pattern, args, errors, &mut room) {
+                    return Cow::Owned(room.as_str().to_owned());
+                }
+            }
+            None => {}
         }
+        Cow::Owned(match self.formatted(pattern, args, errors, |text| text.as_str().to_owned()) {
+            Some(Formatted::Taken(text) | Formatted::Shown(text)) => text,
+            None => reference(pattern),
+        })
     }
 
     /// Writes the text of a pattern, which is that of [`FluentBundle::format_pattern`]. Errors are added to `errors`.
@@ -386,10 +391,14 @@ impl<R: Borrow<FluentResource>, M> FluentBundle<R, M> {
         errors: &mut Vec<FluentError>,
     ) -> fmt::Result {
         let mut copy = ShortText::none();
-        match self.quickly(pattern, args, errors, &mut copy) {
-            Quick::Fixed(text) => return w.write_str(text),
-            Quick::Written => return w.write_str(copy.as_str()),
-            Quick::Not => {}
+        match self.known(pattern) {
+            Some(Known::Fixed(text)) => return w.write_str(text),
+            Some(Known::Varies(varies)) => {
+                if self.is_written(varies, pattern, args, errors, &mut copy) {
+                    return w.write_str(copy.as_str());
+                }
+            }
+            None => {}
         }
         match self.formatted(pattern, args, errors, |text| copy.take(text)) {
             Some(Formatted::Taken(None)) => w.write_str(copy.as_str()),
@@ -403,14 +412,13 @@ impl<R: Borrow<FluentResource>, M> FluentBundle<R, M> {
         }
     }
 
+    #[inline(always)]
     fn message(&self, id: &str) -> Option<&Message> {
-        match self.entries.get(id)? {
-            Held::Message(message) => Some(message),
-            Held::Builtin | Held::Function | Held::Term => None,
-        }
+        self.entries.message(id)
     }
 
     /// The pattern of this bundle that is meant by one of any bundle.
+    #[inline]
     fn own<'p>(&'p self, pattern: &'p Pattern) -> Option<&'p Pattern> {
         if pattern.is_of(self.entries.numbers()) {
             return Some(pattern);
@@ -418,50 +426,51 @@ impl<R: Borrow<FluentResource>, M> FluentBundle<R, M> {
         self.message(pattern.id())?.pattern(pattern.attribute())
     }
 
-    /// What is known of the text of a pattern of this bundle.
+    /// What is known of the text of a pattern.
+    #[inline]
+    fn known(&self, pattern: &Pattern) -> Option<&Known> {
+        let own = self.own(pattern)?;
+        Some(self.known.get(own, self.entries.numbers(), || self.found_out(own)))
+    }
+
+    /// What is known of a pattern of this bundle once it was asked for.
     ///
-    /// It is the same for all arguments if there are no errors without arguments, by the law `needs_no_arguments` of the
-    /// library: a variable that is missing is an error, so none was asked for.
+    /// Its text is the same for all arguments if there are no errors without arguments, by the law `needs_no_arguments` of
+    /// the library: a variable that is missing is an error, so none was asked for.
     #[cold]
     fn found_out(&self, own: &Pattern) -> Known {
-        let shown =
-            |text: &str| Customs::default().shown(text, self.transform, Locales::default()).map(String::into_boxed_str);
-        let fixed = |text: &mut Text, errors: &str| {
-            errors.is_empty().then(|| shown(text.as_str()).unwrap_or_else(|| text.as_str().into()))
-        };
+        let fixed = |text: &mut Text, errors: &str| errors.is_empty().then(|| text.as_str().to_owned());
         // A text that calls a function isn't kept.
         match self.kept(self.shows(None)).format(own, NONE, |_| None, fixed) {
-            Ok(Some(text)) => Known::Fixed(text),
-            _ => Known::Varies { number: self.kept(false).find(own), calls: AtomicBool::new(false) },
+            Ok(Some(text)) => {
+                let shown = Customs::default().shown(&text, self.transform, Locales::default());
+                Known::Fixed(shown.unwrap_or(text).into_boxed_str())
+            }
+            _ => Known::Varies(Varies::of(self.kept(false).find(own))),
         }
     }
 
-    /// The text of a pattern, if the library writes it as it is shown, and it is fixed or isn't long. Errors are added to
-    /// `errors`.
+    /// Whether the library has written the text of a pattern into `room`, which it does if it shows each value, calls no
+    /// function and the text isn't long. Errors are added to `errors`.
     #[inline]
-    fn quickly<'p>(
-        &'p self,
-        pattern: &'p Pattern,
+    fn is_written(
+        &self,
+        varies: &Varies,
+        pattern: &Pattern,
         args: Option<&FluentArgs<'_>>,
         errors: &mut Vec<FluentError>,
         room: &mut ShortText,
-    ) -> Quick<'p> {
-        let Some(own) = self.own(pattern) else { return Quick::Not };
-        let (number, calls) = match self.known.get(own, self.entries.numbers(), || self.found_out(own)) {
-            Known::Fixed(text) => return Quick::Fixed(text),
-            Known::Varies { number, calls } => (*number, calls),
-        };
+    ) -> bool {
         let args = args.unwrap_or(NONE);
         let is_shown_so = self.formatter.is_none() && self.transform.is_none() && args.are_plain();
-        if !is_shown_so || calls.load(Ordering::Relaxed) {
-            return Quick::Not;
+        if !is_shown_so || !varies.is_short() {
+            return false;
         }
-        match self.kept(false).write(own, number, args, room, |lines| tell(lines, errors)) {
-            c::FLUENT_READ => return Quick::Written,
-            c::FLUENT_CALL => calls.store(true, Ordering::Relaxed),
-            _ => {}
+        let status = self.kept(false).write(pattern, varies.number, args, room, |lines| tell(lines, errors));
+        if matches!(status, c::FLUENT_CALL | c::FLUENT_NO_ROOM) {
+            varies.set_long();
         }
-        Quick::Not
+        status == c::FLUENT_READ
     }
 
     /// What `took` makes of the text of a pattern, or `None` if there is none. Errors are added to `errors`.
@@ -495,13 +504,18 @@ impl<R: Borrow<FluentResource>, M> FluentBundle<R, M> {
             if !lines.is_empty() {
                 tell(lines, errors);
             }
-            match answering.customs.shown(text.as_str(), self.transform, self.locales()) {
-                Some(text) => Formatted::Shown(text),
-                None => Formatted::Taken(took(text)),
+            match answering.customs.are_none() && self.transform.is_none() {
+                true => Ok(took(text)),
+                // No code of the program's own runs under the lock of the bundle.
+                false => Err(mem::replace(text, Text::none())),
             }
         });
         let error = match answered {
-            Ok(taken) => return Some(taken),
+            Ok(Ok(taken)) => return Some(Formatted::Taken(taken)),
+            Ok(Err(text)) => {
+                let shown = answering.into_inner().customs.shown(text.as_str(), self.transform, self.locales());
+                return Some(Formatted::Shown(shown.unwrap_or_else(|| text.as_str().to_owned())));
+            }
             Err(Refusal::NoPattern) => ResolverError::Reference(ReferenceKind::Message {
                 id: pattern.id().to_owned(),
                 attribute: Some(pattern.attribute().to_owned()).filter(|name| !name.is_empty()),
@@ -638,16 +652,6 @@ fn number_source(options: &str) -> String {
 #[cold]
 fn tell(lines: &str, errors: &mut Vec<FluentError>) {
     errors.extend(lines.split_terminator('\n').map(|line| ResolverError::of_line(line).into()));
-}
-
-/// What came of a text that was asked for quickly.
-enum Quick<'p> {
-    /// It is lent.
-    Fixed(&'p str),
-    /// It was written.
-    Written,
-    /// It has to be asked for in the other way.
-    Not,
 }
 
 /// The text of a pattern.

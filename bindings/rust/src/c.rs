@@ -8,6 +8,7 @@ pub const FLUENT_DAMAGED: u32 = 9;
 pub const FLUENT_CARRIAGE_RETURN: u32 = 10;
 pub const FLUENT_NOT_TIDY: u32 = 11;
 pub const FLUENT_CALL: u32 = 12;
+pub const FLUENT_NO_ROOM: u32 = 15;
 
 pub const FLUENT_TEXT: u32 = 0;
 pub const FLUENT_DECIMAL: u32 = 1;

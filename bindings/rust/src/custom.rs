@@ -32,6 +32,11 @@ fn secret() -> u64 {
 }
 
 impl Customs {
+    /// Whether no text stands for anything.
+    pub(crate) fn are_none(&self) -> bool {
+        self.0.is_empty()
+    }
+
     /// The text that stands for a value.
     pub(crate) fn token(&mut self, value: &(dyn FluentType + Send)) -> String {
         self.hold(Held::Value(value.duplicate()))
@@ -64,7 +69,7 @@ impl Customs {
     /// that is the text as it is.
     #[inline]
     pub(crate) fn shown(&self, text: &str, transform: Option<Transform>, locales: Locales<'_>) -> Option<String> {
-        if self.0.is_empty() && transform.is_none() {
+        if self.are_none() && transform.is_none() {
             return None;
         }
         self.replaced(text, transform, locales)

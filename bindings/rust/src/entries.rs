@@ -2,22 +2,22 @@
 //! keeps.
 
 use crate::errors::{EntryKind, FluentError};
-use crate::ids::{ById, Name};
+use crate::ids::{hash_of, Name};
 use crate::kept::{Kept, Settings};
-use crate::listing::{Entry, Lines};
+use crate::listing::{self, Entry, Lines};
 use crate::message::{Message, Numbers};
+use crate::places::Places;
 use crate::resource::FluentResource;
-use std::collections::hash_map::{self, DefaultHasher};
+use std::collections::hash_map::DefaultHasher;
 use std::collections::HashMap;
 use std::hash::{Hash, Hasher};
-use std::mem;
 use std::sync::{Arc, Mutex, MutexGuard, OnceLock, PoisonError, Weak};
 use std::thread::ThreadId;
 
 /// What is held under an id.
-#[derive(Clone)]
 pub(crate) enum Held {
-    Message(Message),
+    /// A message whose patterns have the numbers from this one on. It is made when it is asked for.
+    Message(usize, OnceLock<Box<Message>>),
     /// The function `NUMBER` of the library.
     Builtin,
     Function,
@@ -42,10 +42,10 @@ pub(crate) struct Entries {
     hash: u64,
     /// The errors of the last resource.
     errors: Vec<FluentError>,
-    /// The entry of each id that counts.
-    by_id: HashMap<Name, Held, ById>,
-    /// The ids of messages and terms, in the order in which each came first.
-    ids: Vec<Name>,
+    /// The ids and what counts of each, in the order in which each came first.
+    held: Vec<(Name, Held)>,
+    /// Where they are.
+    places: Places,
     numbers: Numbers,
     /// What the library keeps for the bundles that share these, by how they ask it.
     kept: Mutex<Vec<(Asking, Weak<Kept>)>>,
@@ -64,26 +64,34 @@ pub(crate) struct Asking {
 impl Entries {
     /// None but the function `NUMBER`.
     pub(crate) fn none() -> Arc<Entries> {
-        Arc::new(Entries {
+        let mut entries = Entries {
             steps: Vec::new(),
             hash: 0,
             errors: Vec::new(),
-            by_id: HashMap::from_iter([(Name::from("NUMBER"), Held::Builtin)]),
-            ids: Vec::new(),
+            held: Vec::new(),
+            places: Places::default(),
             numbers: Numbers::new(),
             kept: Mutex::default(),
-        })
+        };
+        entries.set(Name::from("NUMBER"), Held::Builtin);
+        Arc::new(entries)
     }
 
     /// What is held under an id.
-    #[inline]
     pub(crate) fn get(&self, id: &str) -> Option<&Held> {
-        self.by_id.get(id)
+        Some(&self.held[self.place(hash_of(id), id)?].1)
     }
 
-    /// The ids of messages and terms, in the order in which each came first.
-    pub(crate) fn ids(&self) -> &[Name] {
-        &self.ids
+    /// The message of an id.
+    // An id that a program names in its code is then hashed when the program is compiled.
+    #[inline(always)]
+    pub(crate) fn message(&self, id: &str) -> Option<&Message> {
+        self.message_at(self.place(hash_of(id), id)?)
+    }
+
+    /// The messages with their ids, in the order in which each id came first.
+    pub(crate) fn messages(&self) -> impl Iterator<Item = (&str, &Message)> {
+        (0..self.held.len()).filter_map(|place| Some((&*self.held[place].0, self.message_at(place)?)))
     }
 
     /// The numbers of its patterns.
@@ -95,13 +103,9 @@ impl Entries {
     /// Adds a resource, whose entries count in place of those that were there, or are errors if they were.
     pub(crate) fn add(this: &mut Arc<Entries>, resource: &FluentResource, overriding: bool) -> Vec<FluentError> {
         Entries::take_step(this, Step::Resource(resource.lines(), overriding), |entries| {
-            entries.by_id.reserve(resource.len());
-            entries.ids.reserve(resource.len());
+            entries.reserve(resource.len());
             for entry in resource.listed() {
-                match overriding {
-                    true => entries.set(&entry),
-                    false => entries.add_new(&entry),
-                }
+                entries.add_entry(&entry, overriding);
             }
         });
         this.errors.clone()
@@ -109,9 +113,7 @@ impl Entries {
 
     /// Adds the name of a function.
     pub(crate) fn add_function(this: &mut Arc<Entries>, name: &str) {
-        Entries::take_step(this, Step::Function(name.into()), |entries| {
-            entries.by_id.insert(Name::from(name), Held::Function);
-        });
+        Entries::take_step(this, Step::Function(name.into()), |entries| entries.set(Name::from(name), Held::Function));
     }
 
     /// What the library keeps for bundles that ask so, which is made if none of them has it.
@@ -137,67 +139,109 @@ impl Entries {
             *this = entries;
             return;
         }
-        let shared = mem::replace(this, Entries::none());
-        let mut entries = Arc::try_unwrap(shared).unwrap_or_else(|shared| shared.duplicate());
+        // Other bundles keep theirs.
+        let entries = Arc::make_mut(this);
         entries.steps.push(step);
         entries.hash = hash;
         entries.errors.clear();
         entries.kept = Mutex::default();
-        add(&mut entries);
-        *this = Arc::new(entries);
+        add(entries);
         Pool::add(this);
     }
 
-    /// A copy with numbers of its own.
-    fn duplicate(&self) -> Entries {
-        let numbers = self.numbers.renewed();
-        let mut by_id = self.by_id.clone();
-        for held in by_id.values_mut() {
-            if let Held::Message(message) = held {
-                message.give_to(&numbers);
-            }
-        }
-        Entries {
-            steps: self.steps.clone(),
-            hash: self.hash,
-            errors: Vec::new(),
-            by_id,
-            ids: self.ids.clone(),
-            numbers,
-            kept: Mutex::default(),
+    /// Where an id with this hash is.
+    #[inline]
+    fn place(&self, hash: u32, id: &str) -> Option<usize> {
+        self.places.find(hash, |place| *self.held[place].0 == *id)
+    }
+
+    /// The message at a place, if it is one.
+    #[inline]
+    fn message_at(&self, place: usize) -> Option<&Message> {
+        match &self.held[place] {
+            (id, Held::Message(first, made)) => Some(match made.get() {
+                Some(message) => message,
+                None => self.made(made, id, *first),
+            }),
+            (_, Held::Builtin | Held::Function | Held::Term) => None,
         }
     }
 
-    /// Adds an entry whose id isn't there; else it is an error.
-    fn add_new(&mut self, entry: &Entry<'_>) {
-        match self.by_id.entry(entry.name()) {
-            hash_map::Entry::Vacant(place) => {
-                let id = place.key().clone();
-                place.insert(Held::of(entry, &id, &mut self.numbers));
-                self.ids.push(id);
-            }
-            hash_map::Entry::Occupied(_) => {
-                self.errors.push(FluentError::Overriding { kind: entry.kind, id: entry.id().to_owned() });
-            }
-        }
+    /// Makes the message of an id, whose patterns have the numbers from this one on.
+    #[cold]
+    #[inline(never)]
+    fn made<'m>(&self, made: &'m OnceLock<Box<Message>>, id: &Name, first: usize) -> &'m Message {
+        made.get_or_init(|| {
+            let entry = listing::Entries::from_id(id).next().expect("A message is in its lines.");
+            Box::new(Message::of(&entry, id, &self.numbers, first))
+        })
     }
 
-    /// Adds an entry in place of that of its id.
-    fn set(&mut self, entry: &Entry<'_>) {
-        let id = entry.name();
-        let held = Held::of(entry, &id, &mut self.numbers);
-        if self.by_id.insert(id.clone(), held).is_none() {
-            self.ids.push(id);
+    /// Makes room for this many more.
+    fn reserve(&mut self, more: usize) {
+        self.held.reserve(more);
+        self.places.reserve(more);
+    }
+
+    /// Adds an entry in place of that of its id, or if it doesn't override one and there is one, an error.
+    fn add_entry(&mut self, entry: &Entry<'_>, overriding: bool) {
+        let (id, hash) = (entry.id(), hash_of(entry.id()));
+        let place = self.place(hash, id);
+        if place.is_some() && !overriding {
+            self.errors.push(FluentError::Overriding { kind: entry.kind, id: id.to_owned() });
+            return;
+        }
+        let held = match entry.kind {
+            EntryKind::Message => Held::Message(self.numbers.take(entry), OnceLock::new()),
+            EntryKind::Term | EntryKind::Function => Held::Term,
+        };
+        self.put(place, hash, entry.name(), held);
+    }
+
+    /// Holds something under an id, in place of what was there.
+    fn set(&mut self, id: Name, held: Held) {
+        let hash = hash_of(&id);
+        let place = self.place(hash, &id);
+        self.reserve(1);
+        self.put(place, hash, id, held);
+    }
+
+    /// Holds something under an id that is at this place, or nowhere yet.
+    fn put(&mut self, place: Option<usize>, hash: u32, id: Name, held: Held) {
+        match place {
+            // A message is in the lines of the id beside it.
+            Some(place) => self.held[place] = (id, held),
+            None => {
+                self.places.push(hash);
+                self.held.push((id, held));
+            }
         }
     }
 }
 
-impl Held {
-    /// What an entry of this id is.
-    fn of(entry: &Entry<'_>, id: &Name, numbers: &mut Numbers) -> Held {
-        match entry.kind {
-            EntryKind::Message => Held::Message(Message::of(entry, id, numbers)),
-            EntryKind::Term | EntryKind::Function => Held::Term,
+/// A copy whose patterns have numbers of their own, and for which the library keeps nothing yet.
+impl Clone for Entries {
+    fn clone(&self) -> Entries {
+        Entries {
+            steps: self.steps.clone(),
+            hash: self.hash,
+            errors: Vec::new(),
+            held: self.held.clone(),
+            places: self.places.clone(),
+            numbers: self.numbers.renewed(),
+            kept: Mutex::default(),
+        }
+    }
+}
+
+/// A copy in which no message is made yet.
+impl Clone for Held {
+    fn clone(&self) -> Held {
+        match self {
+            Held::Message(first, _) => Held::Message(*first, OnceLock::new()),
+            Held::Builtin => Held::Builtin,
+            Held::Function => Held::Function,
+            Held::Term => Held::Term,
         }
     }
 }

@@ -2,7 +2,7 @@
 
 use crate::message::{Numbers, Pattern};
 use std::iter;
-use std::sync::atomic::AtomicBool;
+use std::sync::atomic::{AtomicBool, Ordering};
 use std::sync::OnceLock;
 
 /// How many patterns share a part of the list, which is made once one of them is asked for.
@@ -13,12 +13,32 @@ pub(crate) enum Known {
     /// It is the same for all arguments.
     Fixed(Box<str>),
     /// It may vary.
-    Varies {
-        /// By this number the library finds the pattern.
-        number: usize,
-        /// Whether it has called a function: then it isn't asked for as if it called none.
-        calls: AtomicBool,
-    },
+    Varies(Varies),
+}
+
+/// What is known of a text that may vary.
+pub(crate) struct Varies {
+    /// By this number the library finds the pattern.
+    pub(crate) number: usize,
+    is_long: AtomicBool,
+}
+
+impl Varies {
+    /// That of a pattern with this number.
+    pub(crate) fn of(number: usize) -> Varies {
+        Varies { number, is_long: AtomicBool::new(false) }
+    }
+
+    /// Whether it is asked for as if it weren't long and called no function, which it never was and did.
+    #[inline]
+    pub(crate) fn is_short(&self) -> bool {
+        !self.is_long.load(Ordering::Relaxed)
+    }
+
+    /// Says that it was long, or called a function.
+    pub(crate) fn set_long(&self) {
+        self.is_long.store(true, Ordering::Relaxed);
+    }
 }
 
 /// What is known of a bundle's patterns, by their places.
@@ -29,11 +49,19 @@ pub(crate) struct KnownTexts(OnceLock<Box<[Part]>>);
 type Part = OnceLock<Box<[OnceLock<Known>; PART]>>;
 
 impl KnownTexts {
-    /// What is known of a pattern with one of these numbers, which `try_it` finds out at first.
+    /// What is known of a pattern with one of these numbers, which `try_it` finds out at first. It may run code of the
+    /// program's own, so of threads that ask at first each finds it out.
     #[inline]
     pub(crate) fn get(&self, pattern: &Pattern, numbers: &Numbers, try_it: impl FnOnce() -> Known) -> &Known {
         let parts = self.0.get_or_init(|| iter::repeat_with(Part::new).take(numbers.len().div_ceil(PART)).collect());
         let part = parts[pattern.place() / PART].get_or_init(|| Box::new([const { OnceLock::new() }; PART]));
-        part[pattern.place() % PART].get_or_init(try_it)
+        let place = &part[pattern.place() % PART];
+        match place.get() {
+            Some(known) => known,
+            None => {
+                let known = try_it();
+                place.get_or_init(|| known)
+            }
+        }
     }
 }

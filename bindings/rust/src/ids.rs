@@ -19,6 +19,24 @@ impl Name {
         assert!(lines.get(place.clone()).is_some(), "There is a name.");
         Name { lines: Arc::clone(lines), place }
     }
+
+    /// The lines that it is a part of.
+    pub(crate) fn lines(&self) -> &Arc<str> {
+        &self.lines
+    }
+
+    /// Where it begins in them.
+    pub(crate) fn start(&self) -> usize {
+        self.place.start
+    }
+}
+
+/// The hash of an id, whose high bits are the best.
+#[inline]
+pub(crate) fn hash_of(id: &str) -> u32 {
+    let mut hasher = IdHasher::default();
+    hasher.write(id.as_bytes());
+    (hasher.0 >> 32) as u32
 }
 
 impl From<&str> for Name {

@@ -56,6 +56,7 @@ mod number;
 mod occurrences;
 mod options;
 pub mod parser;
+mod places;
 mod report;
 pub mod resolver;
 mod resource;

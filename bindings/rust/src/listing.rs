@@ -69,6 +69,13 @@ pub(crate) struct Entries<'l> {
     at: usize,
 }
 
+impl<'l> Entries<'l> {
+    /// Those from a message on, of which this is the id.
+    pub(crate) fn from_id(id: &'l Name) -> Entries<'l> {
+        Entries { lines: id.lines(), at: id.start() }
+    }
+}
+
 impl<'l> Iterator for Entries<'l> {
     type Item = Entry<'l>;
 

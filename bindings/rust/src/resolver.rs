@@ -60,11 +60,14 @@ pub enum ReferenceKind {
 impl ReferenceKind {
     /// What this is that is called unknown, as in `variable: $name`.
     fn read(unknown: &str) -> Option<ReferenceKind> {
-        let (what, name) = unknown.split_once(": ")?;
         let owned = str::to_owned;
+        // Mostly it is a variable.
+        if let Some(id) = unknown.strip_prefix("variable: $") {
+            return Some(ReferenceKind::Variable { id: owned(id) });
+        }
+        let (what, name) = unknown.split_once(": ")?;
         match what {
             "function" => Some(ReferenceKind::Function { id: owned(name.strip_suffix("()")?) }),
-            "variable" => Some(ReferenceKind::Variable { id: owned(name.strip_prefix('$')?) }),
             "message" | "term" | "attribute" => {
                 let (name, attribute) = match name.split_once('.') {
                     Some((name, attribute)) => (name, Some(owned(attribute))),
