@@ -90,7 +90,7 @@ test("findings, and what changes them", async () => {
   assert.deepStrictEqual(codes(), ["unknown-variable", "missing-message"]);
   const [found] = state.diagnostics.get(polish.uri.toString());
   assert.deepStrictEqual([found.severity, found.source, found.range.start.character], [0, "kozhvadi", 11]);
-  assert.match(found.code.target.toString(), /lint\.md#L\d+$/);
+  assert.match(found.code.target.toString(), /codes\.md#L\d+$/);
   assert.strictEqual(found.relatedInformation[0].message, "the message of the reference");
   change("$nmae", "$name");
   await until(() => codes()?.length === 1);
