@@ -171,9 +171,9 @@ struct FluentPlace {
  * blank line stays where there are some, a byte order mark is left out, and lines end in LF.
  *
  * It returns FLUENT_READ, and `made` is the text; FLUENT_DAMAGED if the source can't be read somewhere, and `place` is the
- * first such place; FLUENT_CARRIAGE_RETURN; FLUENT_NOT_TIDY if it has one of the few shapes of
- * docs/reference/normal-text.md; FLUENT_NOT_UTF8 or FLUENT_NO_MEMORY. Only FLUENT_DAMAGED changes `place`, and `made` is
- * as it was then. */
+ * first such place, in the source without a byte order mark and with LF for CR LF; FLUENT_CARRIAGE_RETURN; FLUENT_NOT_TIDY if
+ * it has one of the few shapes of docs/reference/normal-text.md; FLUENT_NOT_UTF8 or FLUENT_NO_MEMORY. Only FLUENT_DAMAGED
+ * changes `place`, and `made` is as it was then. */
 uint32_t fluent_tidy(const uint8_t *text, size_t len, struct FluentText *made, struct FluentPlace *place);
 
 /* A file: its name, as findings have it, and its text. */

@@ -2,7 +2,7 @@
 use Rattle.std.specs.Prelude.{◌≡◌, ◌≢◌, ℕ, Bool, List, [], ◌∷◌, None, IsUtf8}
 use Rattle.serde_json.specs.Read.{read as read_text}
 use Rattle.fluent_grammar.specs.Words.{Text}
-use Rattle.fluent_tree.specs.Given.{IsOfNoTree, IsWrittenOf}
+use Rattle.fluent_kept.specs.GivenTrees.{IsOfNoTree, IsWrittenOf}
 use Rattle.fluent_c.specs.Made.{Holds}
 use Rattle.fluent_c.specs.Statuses.{IsOneOf}
 use Rattle.fluent_c.specs.declared.TheConstants.{FLUENT_READ, FLUENT_NOT_UTF8, FLUENT_NO_MEMORY, FLUENT_NOT_JSON, FLUENT_NOT_TREE}

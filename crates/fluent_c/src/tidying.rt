@@ -83,8 +83,9 @@ fn read_errors(alloc: Global, source: &str) -> Result<Vec<ParserError>, AllocErr
 ///
 /// The call returns [`FLUENT_READ`], and `made` holds the text; what it held before is freed. It
 /// returns [`FLUENT_DAMAGED`] if the source can't be read somewhere: `place` is the first such
-/// place. It returns [`FLUENT_CARRIAGE_RETURN`] if the source has a carriage return that isn't part
-/// of CR LF, [`FLUENT_NOT_TIDY`] if it has no tidy text, as `docs/reference/normal-text.md` says,
+/// place, in the source without a byte order mark and with LF for CR LF. It returns
+/// [`FLUENT_CARRIAGE_RETURN`] if the source has a carriage return that isn't part of CR LF,
+/// [`FLUENT_NOT_TIDY`] if it has no tidy text, as `docs/reference/normal-text.md` says,
 /// [`FLUENT_NOT_UTF8`] or [`FLUENT_NO_MEMORY`] otherwise. `made` is unchanged unless it returns
 /// [`FLUENT_READ`], and `place` unless it returns [`FLUENT_DAMAGED`]. All other memory is freed
 /// when it returns.

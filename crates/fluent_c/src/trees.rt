@@ -7,7 +7,7 @@ ghost use Rattle.fluent_c.specs.declared.TheConstants.{FLUENT_READ};
 use crate::text::FluentText;
 use crate::tidying::put_text;
 use crate::{FLUENT_NO_MEMORY, FLUENT_NOT_JSON, FLUENT_NOT_TREE, FLUENT_NOT_UTF8};
-use fluent_tree::{TreeError, write_tree};
+use fluent_kept::tree::{TreeError, write_tree};
 use simdutf8::basic::from_utf8;
 use std::alloc::Global;
 

@@ -11,3 +11,4 @@ mod HandleMade
 mod Crossing
 mod Messages
 mod Written
+pub mod OneTree

@@ -5,3 +5,5 @@ pub mod Answers
 pub mod Writing
 pub mod Kept
 pub mod Handle
+pub mod TreeMessage
+pub mod GivenTrees

@@ -2,7 +2,7 @@
 //! pointers.
 //!
 //! A [`FluentBundle`] owns all of it and borrows nothing, so a program in C can keep one from call
-//! to call.
+//! to call. [`tree`] writes the source of a tree that such a program gives as a JSON text.
 #![tactic(auto)]
 
 mod bundle;
@@ -16,6 +16,7 @@ mod resources;
 mod shelf;
 mod sources;
 mod threads;
+pub mod tree;
 mod variables;
 
 pub use bundle::Bundle;

@@ -1,6 +1,6 @@
 //! Laws of trees in JSON texts, each the contract of a function that does nothing.
 
-ghost use Rattle.fluent_tree.specs.Given.{TextDecides, WritingDecides};
+ghost use Rattle.fluent_kept.specs.GivenTrees.{TextDecides, WritingDecides};
 
 /// A JSON text is of one tree at most.
 pub fn text_decides_tree()

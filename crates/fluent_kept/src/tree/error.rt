@@ -1,13 +1,13 @@
 //! Why nothing is written of a JSON text.
 
 ghost use Rattle.std.specs.Prelude.{◌≡◌, Some};
-ghost use Rattle.fluent_tree.specs.Message.{message};
-ghost use Rattle.fluent_tree.specs.declared.error.TreeError.TheVariants.{Memory};
+ghost use Rattle.fluent_kept.specs.TreeMessage.{message};
+ghost use Rattle.fluent_kept.specs.declared.tree.error.TreeError.TheVariants.{Memory};
 
 use std::alloc::AllocError;
 use std::fmt;
 
-/// Why [`write_tree`](crate::write_tree) gave no text.
+/// Why [`write_tree`](crate::tree::write_tree) gave no text.
 ///
 /// ```no_run
 /// match write_tree(alloc, json, true) {

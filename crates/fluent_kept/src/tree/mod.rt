@@ -2,16 +2,15 @@
 //!
 //! [`write_tree`] reads the text as `docs/reference/json.md` has it, with a version or without, and
 //! writes the tree as the serializer does. Names and texts are written as they are, so what is
-//! written of a tree that no source has may be read as another. `specs/Given.antt` says which tree
-//! a text is of, and [`laws`] that there is one at most.
-#![tactic(auto)]
+//! written of a tree that no source has may be read as another. `specs/GivenTrees.antt` says which
+//! tree a text is of, and [`laws`] that there is one at most.
 
 mod error;
 pub mod laws;
 
 ghost use Rattle.std.specs.Prelude.{IfErr, IfOk, string_bytes};
 ghost use Rattle.fluent_json.specs.Parts.{plain};
-ghost use Rattle.fluent_tree.specs.Given.{IsRefusedFor, IsTreeOf, IsWrittenOf};
+ghost use Rattle.fluent_kept.specs.GivenTrees.{IsRefusedFor, IsTreeOf, IsWrittenOf};
 
 pub use error::TreeError;
 use fluent_ast::Resource;

@@ -6,8 +6,8 @@ use Rattle.fluent_grammar.specs.Tree.{Entry}
 use Rattle.fluent_grammar.specs.Words.{Text}
 use Rattle.fluent_grammar.specs.Written.{written_with}
 use Rattle.fluent_json_write.specs.Json.{HasValue, HasNoTree}
-use Rattle.fluent_tree.specs.declared.error.TreeError.{TreeError}
-use Rattle.fluent_tree.specs.declared.error.TreeError.TheVariants.{Memory, NotJson, NotTree}
+use Rattle.fluent_kept.specs.declared.tree.error.TreeError.{TreeError}
+use Rattle.fluent_kept.specs.declared.tree.error.TreeError.TheVariants.{Memory, NotJson, NotTree}
 
 -- A JSON text has a value, and it is that of the tree with these entries, with its version or without.
 pub record IsTreeOf (json : Text) (entries : List Entry) : Type 0 where

@@ -1,7 +1,7 @@
 -- What an error shows.
 use Rattle.std.specs.Prelude.{ℕ, List, codes}
-use Rattle.fluent_tree.specs.declared.error.TreeError.{TreeError}
-use Rattle.fluent_tree.specs.declared.error.TreeError.TheVariants.{Memory, NotJson, NotTree}
+use Rattle.fluent_kept.specs.declared.tree.error.TreeError.{TreeError}
+use Rattle.fluent_kept.specs.declared.tree.error.TreeError.TheVariants.{Memory, NotJson, NotTree}
 
 abbrev pub message : TreeError → List ℕ
 message Memory = codes "out of memory"

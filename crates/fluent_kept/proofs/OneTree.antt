@@ -4,7 +4,7 @@ use Rattle.serde_json.specs.Data.{Data}
 use Rattle.fluent_grammar.specs.Written.{written_with}
 use Rattle.fluent_json_write.specs.Json.{HasValue}
 use Rattle.fluent_json_write.proofs.Injective.{value_decides}
-use Rattle.fluent_tree.specs.Given.{IsTreeOf, TextDecides, WritingDecides}
+use Rattle.fluent_kept.specs.GivenTrees.{IsTreeOf, TextDecides, WritingDecides}
 
 one_value : (x y : Data) → Some x ≡ Some y → x ≡ y
 one_value x y same = cc
