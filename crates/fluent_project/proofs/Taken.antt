@@ -1,10 +1,9 @@
 -- What a pattern takes is what it stands for, and its wildcards take as much as they can.
 use Rattle.std.proofs.Common.{◌≡◌, ◌∙◌, ℕ, suc, ◌<◌, ◌≤◌, ◌++◌, Bool, true, false, List, [], ◌∷◌, Option, Some, None, length, take, drop, refl, ap, sym, subst, arith, inl, inr}
 use Rattle.std.specs.Prelude.{◌⊎◌, ◌&&◌, ◌==◌, if◌then◌else◌, is_some, IfSome}
-use Rattle.std.specs.List.{list_all}
 use Rattle.std.specs.Option.{option_map_or}
 use Rattle.std.proofs.Math.Nat.{eq-or-lt_of_le}
-use Rattle.std.proofs.Math.Seq.{drop-append_seam, take-append_seam}
+use Rattle.std.proofs.Math.Seq.{drop-append_seam}
 use Rattle.std.proofs.lemmas.Bool.{and_from, and_parts, eq-eqb, eqb-true, false≢true}
 use Rattle.std.proofs.lemmas.List.{length-take-le, take-append-drop}
 use Rattle.fluent_project.specs.declared.part.Part.{Part}
@@ -125,7 +124,7 @@ same_start : (first byte : ℕ) (text path : Text) → first ≡ byte → text �
 same_start first byte text path e f = cc
 
 -- what follows a text, put after it again
-abbrev Follows : Text → Text → Text → Type 0
+abbrev pub Follows : Text → Text → Text → Type 0
 Follows text path rest = text ++ rest ≡ path
 
 follows_so : (first byte : ℕ) (text path : Text) (rest : Option Text) → first ≡ byte → IfSome rest (Follows text path)
@@ -138,7 +137,7 @@ follows_if : (first byte : ℕ) (text path : Text) (is : Bool) → (first == byt
 follows_if first byte text path true e f = follows_so first byte text path (after text path) (eqb-true first byte e) f
 follows_if first byte text path false e f = tt
 
-follows_after : (text path : Text) → IfSome (after text path) (Follows text path)
+pub follows_after : (text path : Text) → IfSome (after text path) (Follows text path)
 follows_after [] path = refl
 follows_after (byte ∷ text) [] = tt
 follows_after (byte ∷ text) (first ∷ path) = follows_if first byte text path (first == byte) refl (follows_after text path)

@@ -2,7 +2,7 @@
 ghost use Rattle.std.specs.Prelude.{◌≡◌, ◌≤◌, ◌++◌, ◌∷◌, IfOk, IfSome, OnOk, length, option_map, false, true};
 ghost use Rattle.fluent_project.specs.Patterns.{AreLongest, Matches};
 ghost use Rattle.fluent_project.specs.Taking.{after, goes_on, is_none, longest, may_end, taken, takes};
-ghost use Rattle.fluent_project.specs.Views.{FindsLongest, plain};
+ghost use Rattle.fluent_project.specs.Views.{FindsLongest, FindsTaken, plain};
 
 use crate::part::{Part, Wildcard};
 use std::alloc::{AllocError, Global};
@@ -26,7 +26,8 @@ pub fn texts_in<'path>(
     locale: &[u8],
     path: &'path [u8],
 ) -> Result<Option<Vec<&'path [u8]>>, AllocError>
-    ensures { IfOk result (FindsLongest locale.now pattern.now path.now) }
+    ensures longest { IfOk result (FindsLongest locale.now pattern.now path.now) }
+    ensures taken { IfOk result (FindsTaken locale.now pattern.now path.now) }
 {
     if takes(pattern, locale, path) {
         let mut texts = Vec::new(alloc);
@@ -87,7 +88,7 @@ fn push_texts_from<'path>(
 
 /// Whether a pattern takes a path as a whole.
 #[cycle(matching)]
-fn takes(pattern: &[Part], locale: &[u8], path: &[u8]) -> bool
+pub(crate) fn takes(pattern: &[Part], locale: &[u8], path: &[u8]) -> bool
     ensures { result ≡ takes locale.now pattern.now path.now }
 {
     match pattern {
@@ -143,7 +144,7 @@ fn longest(
 }
 
 /// Whether a text has no byte.
-fn is_none(text: &[u8]) -> bool
+pub fn is_none(text: &[u8]) -> bool
     ensures { result ≡ is_none text.now }
 {
     match text {
@@ -153,7 +154,7 @@ fn is_none(text: &[u8]) -> bool
 }
 
 /// What follows a text at the start of a path.
-fn after<'path>(text: &[u8], path: &'path [u8]) -> Option<&'path [u8]>
+pub fn after<'path>(text: &[u8], path: &'path [u8]) -> Option<&'path [u8]>
     ensures rest { option_map (λ rest. rest.now) result ≡ after text.now path.now }
     ensures shorter { IfSome result (λ rest. length rest.now ≤ length path.now) }
 {

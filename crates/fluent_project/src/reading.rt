@@ -183,7 +183,7 @@ fn brace_at(text: &[u8]) -> Option<usize>
 }
 
 /// A text without the blanks at its ends.
-fn trimmed(text: &[u8]) -> &[u8]
+pub fn trimmed(text: &[u8]) -> &[u8]
     ensures { result.now ≡ trimmed text.now }
 {
     text.trim_ascii()
@@ -217,7 +217,7 @@ fn parts_named<'v>(variables: &[Variable<'v>], name: &[u8]) -> Option<&'v [Part]
 }
 
 /// Whether two texts are the same.
-fn is_same(text: &[u8], other: &[u8]) -> bool
+pub fn is_same(text: &[u8], other: &[u8]) -> bool
     ensures { result ≡ same_text text.now other.now }
 {
     match text {
