@@ -9,3 +9,18 @@ pub mod SameFindings
 mod CountRows
 pub mod Found
 pub mod Replies
+pub mod Loops
+pub mod OwnIds
+pub mod AlikeFindings
+pub mod PlacesAdded
+pub mod Gapped
+pub mod EachFound
+pub mod CleanFiles
+pub mod CleanLanguages
+pub mod Parallel
+pub mod ReferenceFiles
+pub mod TakenSteps
+pub mod Wide
+pub mod Compared
+pub mod ForOriginal
+pub mod FirstParts

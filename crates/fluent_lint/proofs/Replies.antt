@@ -76,12 +76,12 @@ module _ {S F : Type 0} (env : Environment S F) (r : Request (Value S)) (ids : I
   by_asked h (Some es) is =
       ((answer_written (over (find ids) env) args es).errors, (refl, flawless_catalogs_answer env ids h r.id r.attribute es (asked_is_target r.id r.attribute (find ids r.id) es is) args))
 
-replies_well : {S F : Type 0} (overriding : Bool) (files : List File) → IsFlawless (ids_of {F = F} overriding (sources files)) → RepliesWell S F overriding files
+pub replies_well : {S F : Type 0} (overriding : Bool) (files : List File) → IsFlawless (ids_of {F = F} overriding (sources files)) → RepliesWell S F overriding files
 replies_well overriding files h env r = by_asked env r (ids_of overriding (sources files)) h (asked env r (ids_of overriding (sources files))) refl
 
 -- ---- no functions
 
-no_functions : (F : Type 0) (options : Options) (references : List File) → KnowsNumberAlone options references → AreFunctions {F = F} (known_functions options references) []
+pub no_functions : (F : Type 0) (options : Options) (references : List File) → KnowsNumberAlone options references → AreFunctions {F = F} (known_functions options references) []
 no_functions F options references h = sym h
 
 own_functions : (F : Type 0) (options : Options) → KnowsNumberAlone options [] → AreFunctions {F = F} options.functions []

@@ -1,5 +1,6 @@
 -- Which findings the code counts.
 use Rattle.std.specs.Prelude.{Bool}
+use Rattle.std.specs.Str.{bytes_eq}
 use Rattle.lint_finding.specs.View.{severity_view}
 use Rattle.lint_findings.specs.Finding.{Finding}
 use Rattle.fluent_lint.specs.Totals.{is_taken, same_severity}
@@ -8,4 +9,5 @@ use Rattle.fluent_lint.specs.declared.totals.Counted.TheVariants as of
 
 abbrev pub is_counted : Counted → Finding → Bool
 is_counted (of.Severity severity) f = same_severity (severity_view severity) f.severity
+is_counted (of.Code code) f = bytes_eq f.code code.now
 is_counted of.TakenIds f = is_taken f

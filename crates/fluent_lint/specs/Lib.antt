@@ -13,3 +13,16 @@ pub mod Missing
 pub mod LintReport
 pub mod LintView
 pub mod RunLaws
+pub mod Pairs
+pub mod Gaps
+pub mod MessagePlaces
+pub mod Lone
+pub mod Own
+pub mod Taken
+pub mod TakenView
+pub mod Shown
+pub mod Translated
+pub mod Table
+pub mod ReferenceView
+pub mod Languages
+pub mod LanguageLaws

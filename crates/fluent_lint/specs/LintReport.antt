@@ -10,7 +10,7 @@ use Rattle.lint_findings.specs.Summary.{Summary, entry_count, summaries}
 use Rattle.fluent_lint.specs.Lacking.{is_lacking}
 use Rattle.fluent_lint.specs.Totals.{taken_line, totals_line}
 use Rattle.lint_report.specs.View.{shown_width}
-use Rattle.fluent_lint.specs.Reported.{found, reported}
+use Rattle.fluent_lint.specs.Reported.{found, kept_of, reported}
 
 -- What is found, before anything is left out. A catalog without a reference is looked at by itself,
 abbrev pub all_findings : Options → List File → List File → List FileFinding
@@ -68,3 +68,16 @@ lint_report options o references files =
           ++ totals o.format o.notes (length files) (entry_count files) shown;
       has_failed = report.has_failed o.strict shown;
     }
+
+-- what text on findings of so many files ends with
+abbrev pub found_ending : Format → Bool → ℕ → List FileFinding → Text
+found_ending format notes files fs = if is_text format then totals_line notes files fs else []
+
+abbrev pub found_text : Format → Bool → ℕ → List FileFinding → Text
+found_text format notes files fs = out.output format shown_width (report.shown notes fs) [] ++ found_ending format notes files fs
+
+-- the report on these findings of so many files, without those that are ignored
+abbrev pub found_report : Output → ℕ → List FileFinding → LintReport
+found_report o files fs =
+    let shown = kept_of o.ignored fs in
+    record { text = found_text o.format o.notes files shown; has_failed = report.has_failed o.strict shown }

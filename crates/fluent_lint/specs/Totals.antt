@@ -19,6 +19,10 @@ found_count test fs = count_by (λ (f : FileFinding). test f.finding) fs
 abbrev pub severity_count : Severity → List FileFinding → ℕ
 severity_count severity fs = found_count (λ (f : Finding). same_severity severity f.severity) fs
 
+-- how many have this code
+abbrev pub code_count : Text → List FileFinding → ℕ
+code_count code fs = found_count (λ (f : Finding). bytes_eq f.code code) fs
+
 -- such as `1 error` and `2 files`
 abbrev pub counted : ℕ → Text → Text
 counted n what = decimal n ++ (codes " " ++ (what ++ (if n == 1 then [] else codes "s")))

@@ -1,9 +1,10 @@
 //! The findings of a catalog.
 #![tactic(auto)]
 
-ghost use Rattle.std.specs.Prelude.{All, IfOk, OnOk};
+ghost use Rattle.std.specs.Prelude.{◌≡◌, All, IfOk, OnOk};
 ghost use Rattle.lint_files.specs.RulesView.{rules_view};
-ghost use Rattle.fluent_lint.specs.FileTiles.{AreTilesOf};
+ghost use Rattle.fluent_lint.specs.FileTiles.{AreTilesOf, files_of};
+ghost use Rattle.fluent_lint.specs.ReferenceView.{named_by};
 ghost use Rattle.fluent_lint.specs.Found.{AreAllFound, AreFoundIn, DeclaresFile, IsOrderedInFile};
 
 use crate::missing::push_missing_messages;
@@ -38,13 +39,14 @@ pub fn all_findings<'s>(
 ///
 /// # Errors
 /// [`AllocError`] if memory runs out; nothing is kept.
-fn catalog_findings<'s>(
+pub fn catalog_findings<'s>(
     alloc: Global,
     rules: &Rules<'_, '_, 's>,
     files: &[FileTiles<'_, 's>],
 ) -> Result<Vec<FileFindings<'s>>, AllocError>
     requires tiles { All AreTilesOf files.now }
-    ensures { IfOk result (AreFoundIn (rules_view rules.now) files.now) }
+    ensures found { IfOk result (AreFoundIn (rules_view rules.now) files.now) }
+    ensures files { IfOk result (λ found. named_by found.items ≡ files_of files.now) }
 {
     let mut declarations = Declarations::new(alloc);
     let mut found = Vec::new(alloc);

@@ -1,7 +1,7 @@
 //! What is known of a catalog and its reference.
 #![tactic(auto)]
 
-ghost use Rattle.std.specs.Prelude.{◌≡◌, [], IfOk, OnOk};
+ghost use Rattle.std.specs.Prelude.{◌≡◌, [], IfOk, None, OnOk};
 ghost use Rattle.fluent_ids.specs.IdsView.{ids_view};
 ghost use Rattle.fluent_lint.specs.KnownIds.{AreCalledBy, IsKnownOf, compared};
 ghost use Rattle.fluent_lint.specs.Reading.{IsRead};
@@ -59,6 +59,25 @@ impl<'r, 's> Known<'r, 's> {
         Ok(known)
     }
 
+    /// What is known of the files of a catalog without a reference.
+    ///
+    /// # Errors
+    /// [`AllocError`] if memory runs out; nothing is kept.
+    pub fn alone(
+        alloc: Global,
+        options: &Options,
+        files: &'r ReadFiles<'_, 's>,
+    ) -> Result<Self, AllocError>
+        requires { IsRead files.now }
+        ensures { IfOk result (IsKnownOf options.now [] files.now.files.now) }
+    {
+        let mut known = Known::new(alloc);
+        add_known_functions(&mut known.functions, options.functions, &[])?;
+        add_ids(&mut known.ids, options.functions, &[], &files.trees)?;
+        add_known_functions(&mut known.reference, options.functions, &[])?;
+        Ok(known)
+    }
+
     /// Adds it to nothing, with the functions that the reference calls.
     fn add(
         &mut self,
@@ -84,6 +103,13 @@ impl<'r, 's> Known<'r, 's> {
             called,
             &references.trees,
         )
+    }
+
+    /// That entries aren't compared.
+    pub fn no_comparison<'c>(&'c self) -> Option<Reference<'c, 'r, 's>>
+        ensures { result ≡ None }
+    {
+        None
     }
 
     /// What entries of the catalog are compared with: the reference, if it has files.

@@ -1,5 +1,6 @@
 //! Laws of reports: each function only carries a law, as its contract.
 
+ghost use Rattle.fluent_lint.specs.LanguageLaws.{CleanLanguagesReplyWell};
 ghost use Rattle.fluent_lint.specs.RunLaws.{CleanReportsReplyWell, OwnIdsReplyWell, ReportsAreFindings, TranslationsReply};
 
 use fluent_value::FluentType;
@@ -25,4 +26,11 @@ pub fn clean_reports_reply_well<C: FluentType, F>()
 /// `ftl run` has a reply from the files to each request that it has a reply to from the reference.
 pub fn translations_reply<C: FluentType, F>()
     ensures { TranslationsReply C.Meaning F }
+{}
+
+/// If no finding of a reference and none of a language, each file with the one that it is
+/// translated from, has one of those codes, and no function is known but `NUMBER`, each reply of
+/// `ftl run` from the files of the language has only errors that depend on the request.
+pub fn clean_languages_reply_well<C: FluentType, F>()
+    ensures { CleanLanguagesReplyWell C.Meaning F }
 {}

@@ -5,21 +5,48 @@
 //! which each refers to the next takes n² steps, as the definition lists for each message all that
 //! it leads to.
 //!
+//! [`language_findings`] finds what is wrong with the files of a language, each of which may be
+//! translated from a file of a [`ReferenceCatalog`]: messages are compared within the two files,
+//! and references are looked up in all files of the language. [`counts_of`] gives the counts of a
+//! table, from what is found, and [`report_found`] reports it.
+//!
 //! `Findings.antt` of `lint_findings` says which findings there are, `specs/LintReport.antt` which
-//! report; and `docs/reference/lint.md` has the rules in plain words.
+//! report, `specs/Pairs.antt` and `specs/Translated.antt` what is found in a language; and
+//! `docs/reference/lint.md` has the rules in plain words.
 #![tactic(auto)]
 
+mod alike;
 mod counts;
+mod differences;
 mod findings;
+mod gaps;
 mod ids;
 mod known;
+mod language;
 pub mod laws;
+mod lone;
+mod message_places;
 mod missing;
+mod original;
+mod own;
+mod pairs;
 mod read;
+mod reference;
+mod refers;
 mod reported;
 mod reports;
+mod table;
+mod taken;
 mod terms;
 mod tiles;
 mod totals;
 
-pub use reports::{Options, Output, Report, report_files};
+pub use language::language_findings;
+pub use lone::{missing_file, missing_locale};
+pub use original::{LanguageFindings, Messages, Original};
+pub use read::{ReadFiles, read_files};
+pub use reference::ReferenceCatalog;
+pub use reported::keep_reported;
+pub use reports::{Options, Output, Report, report_files, report_found};
+pub use table::{Counts, counts_of};
+pub use totals::push_totals;

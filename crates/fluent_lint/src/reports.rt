@@ -1,12 +1,13 @@
 //! Reports of findings.
 #![tactic(auto)]
 
-ghost use Rattle.std.specs.Prelude.{◌≡◌, IfOk, OnOk, map};
-ghost use Rattle.fluent_lint.specs.LintView.{report_on_files, report_view};
+ghost use Rattle.std.specs.Prelude.{◌≡◌, IfOk, OnOk, map, string_bytes};
+ghost use Rattle.fluent_lint.specs.LintView.{ending_on_findings, report_on_files, report_on_findings, report_view, text_on_findings};
 ghost use Rattle.fluent_lint.specs.Reading.{IsRead};
 ghost use Rattle.fluent_lint.specs.Reports.{IsReportBy, IsReportOf, IsReportOn, ending};
 ghost use Rattle.lint_files.specs.RulesView.{rules_view};
 ghost use Rattle.lint_finding.specs.View.{findings_view};
+ghost use Rattle.lint_findings.specs.Report.{has_failed as fails};
 ghost use Rattle.lint_report.specs.Changes.{Appends};
 ghost use Rattle.lint_report.specs.ReportView.{summary_view};
 
@@ -81,6 +82,59 @@ pub fn report_files<'s>(
     let files = read_files(alloc, files, stack)?;
     let report = report_read_files(alloc, options, output, &references, &files)?;
     Ok(report)
+}
+
+/// The report of what is found in this many files, without the findings whose code is ignored.
+///
+/// # Errors
+/// [`AllocError`] if memory runs out.
+pub fn report_found(
+    alloc: Global,
+    output: Output<'_>,
+    files: usize,
+    found: &mut [FileFindings],
+) -> Result<Report, AllocError>
+    ensures { IfOk result (λ made. report_view made
+        ≡ report_on_findings output.entry files found.old) }
+{
+    keep_reported(found, output.ignored);
+    report_kept(alloc, output, files, found)
+}
+
+/// The report of these findings of this many files.
+fn report_kept(
+    alloc: Global,
+    output: Output<'_>,
+    files: usize,
+    found: &[FileFindings],
+) -> Result<Report, AllocError>
+    ensures text { IfOk result (λ made. string_bytes made.text
+        ≡ text_on_findings output.entry files found.now) }
+    ensures failed { IfOk result (λ made. made.has_failed
+        ≡ fails output.entry.strict (findings_view found.now)) }
+{
+    let mut text = report(alloc, output.format, output.notes, found, &[])?;
+    push_found_ending(&mut text, output, files, found)?;
+    Ok(Report {
+        text,
+        has_failed: has_failed(output.strict, found),
+    })
+}
+
+/// Appends how many findings there are, to text.
+fn push_found_ending(
+    text: &mut String,
+    output: Output<'_>,
+    files: usize,
+    found: &[FileFindings],
+) -> Result<(), AllocError>
+    ensures { OnOk result
+        (Appends text.old text.new (ending_on_findings output.entry files found.now)) }
+{
+    match output.format {
+        Format::Text | Format::Terminal => push_totals(text, output.notes, files, found),
+        Format::Line | Format::Json | Format::Github | Format::Sarif | Format::Gitlab => Ok(()),
+    }
 }
 
 /// The report of files and of those of a reference, by what was read of them.

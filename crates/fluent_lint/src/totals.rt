@@ -4,7 +4,7 @@ ghost use Rattle.lint_report.specs.Changes.{Appends};
 ghost use Rattle.std.specs.Prelude.{◌≡◌, ◌++◌, [], IfOk, OnOk, codes, count_by, if◌then◌else◌};
 ghost use Rattle.lint_finding.specs.View.{finding_view, findings_view, severity_view};
 ghost use Rattle.fluent_lint.specs.Counting.{is_counted};
-ghost use Rattle.fluent_lint.specs.Totals.{are_most_taken, counted, found_count, notes_total, same_severity, severity_count, taken_line, totals_line};
+ghost use Rattle.fluent_lint.specs.Totals.{are_most_taken, code_count, counted, found_count, notes_total, same_severity, severity_count, taken_line, totals_line};
 
 use lint_finding::{FileFindings, Finding, Severity};
 use std::alloc::AllocError;
@@ -81,36 +81,52 @@ fn are_most_taken(entries: usize, taken: usize, errors: usize) -> bool
 }
 
 /// How many findings have this severity.
-fn severity_count(findings: &[FileFindings], severity: Severity) -> Result<usize, AllocError>
+///
+/// # Errors
+/// [`AllocError`] if there are more than `usize` can count, which fit in no memory.
+pub fn severity_count(findings: &[FileFindings], severity: Severity) -> Result<usize, AllocError>
     ensures { IfOk result (λ count. count ≡ severity_count (severity_view severity) (findings_view findings.now)) }
 {
     count(findings, Counted::Severity(severity))
 }
 
+/// How many findings have this code.
+///
+/// # Errors
+/// [`AllocError`] if there are more than `usize` can count, which fit in no memory.
+pub fn code_count(findings: &[FileFindings], code: &str) -> Result<usize, AllocError>
+    ensures { IfOk result (λ count. count ≡ code_count code.now (findings_view findings.now)) }
+{
+    count(findings, Counted::Code(code))
+}
+
 /// Which findings are counted.
 #[derive(Clone, Copy)]
-enum Counted {
+enum Counted<'a> {
     /// Those of a severity.
     Severity(Severity),
+    /// Those of a code.
+    Code(&'a str),
     /// Those of entries whose id is taken.
     TakenIds,
 }
 
-impl Counted {
+impl Counted<'_> {
     /// Whether a finding is counted.
     fn has(self, finding: &Finding) -> bool
-        ensures { result ≡ is_counted self (finding_view finding.now) }
+        ensures { result ≡ is_counted self.entry (finding_view finding.now) }
     {
         match self {
             Counted::Severity(severity) => same_severity(severity, finding.severity),
+            Counted::Code(code) => *finding.code == *code,
             Counted::TakenIds => finding.code == "duplicate-id",
         }
     }
 }
 
 /// How many findings are counted. More than `usize` can count don't fit in memory.
-fn count(findings: &[FileFindings], counted: Counted) -> Result<usize, AllocError>
-    ensures { IfOk result (λ count. count ≡ found_count (is_counted counted) (findings_view findings.now)) }
+fn count(findings: &[FileFindings], counted: Counted<'_>) -> Result<usize, AllocError>
+    ensures { IfOk result (λ count. count ≡ found_count (is_counted counted.entry) (findings_view findings.now)) }
 {
     let mut total: usize = 0;
     for file in findings {
@@ -123,8 +139,8 @@ fn count(findings: &[FileFindings], counted: Counted) -> Result<usize, AllocErro
 }
 
 /// How many of some findings are counted.
-fn count_in(findings: &[Finding], counted: Counted) -> usize
-    ensures { result ≡ count_by (λ f. is_counted counted (finding_view f)) findings.now }
+fn count_in(findings: &[Finding], counted: Counted<'_>) -> usize
+    ensures { result ≡ count_by (λ f. is_counted counted.entry (finding_view f)) findings.now }
 {
     findings
         .iter()

@@ -8,4 +8,4 @@ pub returns : goal.returns
 returns c =
     let rules = rules_view c.args.rules.now in
     c.in_ok-push_missing_messages.ensures
-    ∙ ap (λ found. found ++ missing_in_files rules.ids (files_view (files_of c.args.references.now))) c.in_ok-found.ensures
+    ∙ ap (λ found. found ++ missing_in_files rules.ids (files_view (files_of c.args.references.now))) c.in_ok-found.ensures.found

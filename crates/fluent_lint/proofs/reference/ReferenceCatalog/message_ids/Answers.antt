@@ -1,0 +1,32 @@
+use Rattle.std.proofs.Common.{◌≡◌, ◌∙◌, List, [], Option, Some, None, ap, length, refl, sym}
+use Rattle.std.proofs.lemmas.Option.{slice_get_past, slice_get_read}
+use Rattle.std.specs.List.{slice_get}
+use Rattle.std.specs.Option.{option_map_or}
+use Rattle.lint_endless.specs.HasNames.{texts}
+use Rattle.lint_finding.specs.View.{file_view}
+use Rattle.fluent_lint.specs.Pairs.{message_ids}
+use Rattle.fluent_lint.specs.declared.tiles.FileTiles.{FileTiles}
+use Rattle.fluent_lint.proofs.ReferenceFiles.{said_at}
+use Rattle.fluent_lint.proofs.reference.ReferenceCatalog.message_ids.Goals as goal
+
+pub returns-in_ok-ids-in-Some : goal.returns-in_ok-ids-in-Some
+returns-in_ok-ids-in-Some c =
+    let tiled = c.args.self.now.own.tiles.items in
+    let seen = c.deref.result.now in
+    let i = c.args.index in
+    let lookup = c.in-Some.ensures.lookup in
+    let tiles = c.in-Some.tiles.now in
+    let there : slice_get tiled i ≡ Some tiles = ap (λ (ts : List FileTiles). slice_get ts i) (sym c.deref.ensures.value) ∙ slice_get_read seen (length seen) i tiles refl lookup.3.0 lookup.1 in
+    c.in_ok-ids-in-Some.ensures.listed
+    ∙ sym (said_at c.args.self.now c.requires i message_ids []
+    ∙ ap (λ (o : Option FileTiles). option_map_or (λ (t : FileTiles). message_ids (file_view t.file)) o []) there)
+
+pub returns-in-None : goal.returns-in-None
+returns-in-None c =
+    let tiled = c.args.self.now.own.tiles.items in
+    let seen = c.deref.result.now in
+    let i = c.args.index in
+    let there : slice_get tiled i ≡ None = ap (λ (ts : List FileTiles). slice_get ts i) (sym c.deref.ensures.value) ∙ slice_get_past seen i c.in-None.ensures.lookup.3 in
+    ap texts c.new.ensures.items
+    ∙ sym (said_at c.args.self.now c.requires i message_ids []
+    ∙ ap (λ (o : Option FileTiles). option_map_or (λ (t : FileTiles). message_ids (file_view t.file)) o []) there)
