@@ -62,6 +62,7 @@ over_program() {
     count_with python3 tools/house/check.py --calls --program "$1"
     count_with python3 tools/rows.py "$1"
     count_with python3 tools/checks.py "$1"
+    count_with python3 tools/projects.py "$1"
     count_with python3 tools/numbers/program.py "$1"
     count_with python3 tools/languages/program.py "$1"
 }
@@ -105,8 +106,9 @@ gate() {
         count tools/bindings.sh
         count tools/stranger.sh
     else
-        for stage in tools/script.sh 'the calls of pages' tools/rows.py tools/checks.py tools/numbers/program.py \
-            tools/languages/program.py tools/more_rows.sh tools/bindings.sh tools/stranger.sh; do
+        for stage in tools/script.sh 'the calls of pages' tools/rows.py tools/checks.py tools/projects.py \
+            tools/numbers/program.py tools/languages/program.py tools/more_rows.sh tools/bindings.sh \
+            tools/stranger.sh; do
             skip "== $stage" 'since rt ci failed'
         done
     fi

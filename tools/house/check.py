@@ -68,7 +68,7 @@ CODES = {
     'docs/reference/lint.md': r'^\| (`[a-z`, -]+`) \| (?:error|warning|note) \|',
     'crates/ftl_arguments/specs/Linting.antt': r'^finding_codes =(.*?)\[\]',
     'crates/ftl_arguments/src/linting.rt': r'^pub\(crate\) const CODES: \[&str; \d+\] = \[(.*?)\]',
-    'crates/ftl_arguments/src/program.rt': r'^const CODES_AND_EXAMPLE: &str = "Codes:\n(.*?)\n\n',
+    'crates/ftl_arguments/src/program.rt': r'^Codes:\n(.*?)\n\n',
 }
 WIDEST = 120
 # How long the README is at most: lines, links, and words a sentence.

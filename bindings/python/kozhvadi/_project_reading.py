@@ -218,9 +218,10 @@ class _Reader:
         """The table of this program."""
         own: dict[str, Any] = self._value("kozhvadi", 0, "kozhvadi", _is_table, "a table", {}, self._data)
         for key in own:
-            if key not in ("functions", "catalog"):
+            if key not in ("functions", "ignore", "catalog"):
                 raise self._wrong("kozhvadi", 0, key, f"[kozhvadi] has no key `{key}`")
         self._value("kozhvadi", 0, "functions", _is_names, "a list of names", None, own)
+        self._value("kozhvadi", 0, "ignore", _is_names, "a list of names", None, own)
         self._value("kozhvadi", 0, "catalog", _CATALOGS.__contains__, f"one of {', '.join(_CATALOGS)}", None, own)
         return own
 

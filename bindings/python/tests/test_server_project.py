@@ -10,6 +10,7 @@ locales = ["pl", "id"]
     l10n = "text/no/{locale}/**"
 [kozhvadi]
     functions = ["OWN"]
+    ignore = ["unused-term"]
 """
 
 

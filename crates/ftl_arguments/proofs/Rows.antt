@@ -3,7 +3,8 @@ use Rattle.std.proofs.Common.{◌≡◌, [], ◌∷◌, true, false, Some, None,
 use Rattle.clap.specs.declared.error.kind.ErrorKind.TheVariants.{MissingRequiredArgument, UnknownArgument}
 use Rattle.clap.proofs.OnLiterals.{clap_on_literals}
 use Rattle.lint_findings.specs.Output.{json, terminal, text}
-use Rattle.ftl_arguments.specs.Meaning.{AskForHelpAlone, AskForVersionAlone, check, clean, command_of, faults_of, format, join, lint, lint_input, run, tidy, tidy_files, tidy_input}
+use Rattle.ftl_arguments.specs.Meaning.{AskForHelpAlone, AskForVersionAlone, check, clean, command_of, faults_of, format, join, lint, lint_input, lint_project, run, status, tidy, tidy_files, tidy_input}
+use Rattle.ftl_arguments.specs.Projects.{markdown}
 
 no_file : faults_of (codes "run" ∷ codes "--overriding" ∷ []) ≡ MissingRequiredArgument ∷ []
 unfolding clap_on_literals
@@ -175,7 +176,7 @@ codes_to_select : command_of false (codes "lint" ∷ codes "--select" ∷ codes 
           ∷ codes "unknown-term-variant" ∷ codes "unknown-category" ∷ codes "unused-category" ∷ codes "replacement-character" ∷ codes "control-character"
           ∷ codes "zero-width" ∷ codes "unbalanced-direction" ∷ codes "unused-term" ∷ codes "missing-message" ∷ codes "missing-value"
           ∷ codes "missing-attribute" ∷ codes "obsolete-value" ∷ codes "obsolete-attribute" ∷ codes "unknown-variable" ∷ codes "missing-variable"
-          ∷ codes "unused-variable" ∷ codes "obsolete-message" ∷ [];
+          ∷ codes "unused-variable" ∷ codes "obsolete-message" ∷ codes "missing-file" ∷ codes "missing-locale" ∷ codes "obsolete-file" ∷ [];
       locale = None;
       notes = true;
       counts = false;
@@ -240,3 +241,50 @@ a_hyphen_among_files : command_of false (codes "tidy" ∷ codes "a" ∷ codes "-
     ≡ Some (tidy_files (record { check = false; paths = codes "a" ∷ codes "-" ∷ [] }))
 unfolding clap_on_literals
 a_hyphen_among_files = refl
+
+the_project_of_the_folder : command_of false (codes "lint" ∷ [])
+    ≡ Some (lint_project (record {
+      project = record { references = []; files = []; locales = []; variables = [] };
+      only = [];
+      functions = [];
+      ignored = [];
+      notes = false;
+      strict = false;
+      format = text;
+    }))
+unfolding clap_on_literals
+the_project_of_the_folder = refl
+
+a_project_with_options : command_of false (codes "lint" ∷ codes "l10n.toml" ∷ codes "--locale" ∷ codes "de,pl" ∷ codes "--only=de" ∷ codes "--define" ∷ codes "a=b" ∷ [])
+    ≡ Some (lint_project (record {
+      project = record { references = []; files = codes "l10n.toml" ∷ []; locales = codes "de" ∷ codes "pl" ∷ []; variables = (codes "a", codes "b") ∷ [] };
+      only = codes "de" ∷ [];
+      functions = [];
+      ignored = [];
+      notes = false;
+      strict = false;
+      format = text;
+    }))
+unfolding clap_on_literals
+a_project_with_options = refl
+
+patterns_of_a_project : command_of false (codes "status" ∷ codes "--reference" ∷ codes "en/**" ∷ codes "{locale}/**" ∷ codes "--files" ∷ codes "--format=markdown" ∷ [])
+    ≡ Some (status (record {
+      project = record { references = codes "en/**" ∷ []; files = codes "{locale}/**" ∷ []; locales = []; variables = [] };
+      files = true;
+      format = markdown;
+    }))
+unfolding clap_on_literals
+patterns_of_a_project = refl
+
+a_reference_of_a_file_of_a_project : command_of false (codes "status" ∷ codes "--reference" ∷ codes "en" ∷ codes "l10n.toml" ∷ []) ≡ None
+unfolding clap_on_literals
+a_reference_of_a_file_of_a_project = refl
+
+an_option_of_projects : command_of false (codes "lint" ∷ codes "--only" ∷ codes "a" ∷ codes "b" ∷ []) ≡ None
+unfolding clap_on_literals
+an_option_of_projects = refl
+
+files_are_no_project : command_of false (codes "status" ∷ codes "a.ftl" ∷ []) ≡ None
+unfolding clap_on_literals
+files_are_no_project = refl

@@ -8,9 +8,10 @@ use Rattle.clap.specs.declared.error.kind.ErrorKind.TheVariants.{DisplayHelp, Di
 use Rattle.clap.specs.declared.parser.matches.ArgMatches.{ArgMatches}
 use Rattle.fluent_serve.specs.RequestView.{arguments_view}
 use Rattle.ftl_arguments.specs.Linting.{Lint}
+use Rattle.ftl_arguments.specs.Projects.{Project, ProjectLint, Status, TableFormat, plain, lines, markdown, project_linting}
 use Rattle.ftl_arguments.specs.TidyFiles.{TidyFiles}
 use Rattle.ftl_arguments.specs.Meaning as asked
-use Rattle.ftl_arguments.specs.Meaning.{AskForHelp, AskForVersion, Asked, Format, asked_by, asked_of, command_of, texts, tidying_by}
+use Rattle.ftl_arguments.specs.Meaning.{AskForHelp, AskForVersion, Asked, Format, asked_by, asked_of, command_of, linting, texts, tidying_by}
 use Rattle.ftl_arguments.specs.Version.{version_line}
 use Rattle.ftl_arguments.specs.declared.commands.Command.{Command}
 use Rattle.ftl_arguments.specs.declared.commands.Command.TheVariants as command
@@ -18,6 +19,11 @@ use Rattle.ftl_arguments.specs.declared.commands.Format as code
 use Rattle.ftl_arguments.specs.declared.commands.Invocation.{Invocation}
 use Rattle.ftl_arguments.specs.declared.commands.Invocation.TheVariants as invocation
 use Rattle.ftl_arguments.specs.declared.commands.Lint as linted
+use Rattle.ftl_arguments.specs.declared.commands.ProjectLint as linted_project
+use Rattle.ftl_arguments.specs.declared.commands.ProjectWords as worded
+use Rattle.ftl_arguments.specs.declared.commands.Status as counted
+use Rattle.ftl_arguments.specs.declared.commands.TableFormat.{TableFormat as CodeFormat}
+use Rattle.ftl_arguments.specs.declared.commands.TableFormat.TheVariants as table
 use Rattle.ftl_arguments.specs.declared.commands.TidyFiles as files
 use Rattle.ftl_arguments.specs.declared.commands.Tidy.{Tidy}
 use Rattle.ftl_arguments.specs.declared.commands.Tidy.TheVariants as of
@@ -65,6 +71,33 @@ lint_view l = record {
   files = texts l.files.items;
 }
 
+abbrev pub project_view : worded.ProjectWords → Project
+project_view p = record {
+  references = texts p.references.items;
+  files = texts p.files.items;
+  locales = texts p.locales.items;
+  variables = arguments_view p.variables.items;
+}
+
+abbrev pub project_lint_view : linted_project.ProjectLint → ProjectLint
+project_lint_view l = record {
+  project = project_view l.project;
+  only = texts l.only.items;
+  functions = texts l.functions.items;
+  ignored = texts l.ignored.items;
+  notes = l.notes;
+  strict = l.strict;
+  format = report.format_view l.format;
+}
+
+abbrev pub table_format_view : CodeFormat → TableFormat
+table_format_view table.Text = plain
+table_format_view table.Json = lines
+table_format_view table.Markdown = markdown
+
+abbrev pub status_view : counted.Status → Status
+status_view s = record { project = project_view s.project; files = s.files; format = table_format_view s.format }
+
 abbrev pub tidy_files_view : files.TidyFiles → TidyFiles
 tidy_files_view t = record { check = t.check; paths = texts t.paths.items }
 
@@ -75,6 +108,8 @@ command_view (command.Format f) = asked.format (format_view f)
 command_view (command.Check files) = asked.check (texts files.items)
 command_view (command.Lint l) = asked.lint (lint_view l)
 command_view (command.LintInput l) = asked.lint_input (lint_view l)
+command_view (command.LintProject l) = asked.lint_project (project_lint_view l)
+command_view (command.Status s) = asked.status (status_view s)
 command_view (command.TidyFiles t) = asked.tidy_files (tidy_files_view t)
 command_view (command.TidyInput check) = asked.tidy_input check
 command_view (command.Tidy t) = asked.tidy (tidy_view t)
@@ -106,6 +141,13 @@ asked_with colours name found = asked_by colours (name, found_rows found)
 -- and one that tidies
 abbrev pub tidying_with : Text → ArgMatches → Option Asked
 tidying_with name found = tidying_by (name, found_rows found)
+
+-- and `lint`, in a catalog or in a project
+abbrev pub linting_with : ArgMatches → linted.Lint → Option Asked
+linting_with found l = linting (found_rows found) (lint_view l)
+
+abbrev pub project_linting_with : ArgMatches → linted.Lint → Option ProjectLint
+project_linting_with found l = project_linting (found_rows found) (lint_view l)
 
 -- the fact holds if the words were refused, and not for want of memory
 abbrev pub IfRefused : {T : Type 0} → Result T WordsError → Type 0 → Type 0

@@ -40,6 +40,10 @@ files_rule = record file_rule { range = Some (record { start_inclusive = 1; end_
 abbrev pub paths_rule : Rule
 paths_rule = record (new_rule (codes "PATH")) { required = true; range = Some (record { start_inclusive = 1; end_inclusive = usize_max }) }
 
+-- the same, or none: files, folders, the file of a project, or patterns
+abbrev pub project_paths_rule : Rule
+project_paths_rule = record (new_rule (codes "PATH")) { range = Some (record { start_inclusive = 1; end_inclusive = usize_max }) }
+
 -- a command with these arguments
 abbrev pub shaped : Text → List Rule → Shape
 shaped name rules = record (new_shape name) { rules = rules }
@@ -77,8 +81,20 @@ reported_rules = filtered_rules ++ flag_rule (codes "notes") ∷ flag_rule (code
 abbrev pub linting_rules : List Rule
 linting_rules = reported_rules ++ flag_rule (codes "strict") ∷ default_rule (codes "format") (codes "text") ∷ default_rule (codes "color") (codes "auto") ∷ []
 
+-- and which files of a project
+abbrev pub project_rules : List Rule
+project_rules = linting_rules ++ each_rule (codes "only") ∷ each_rule (codes "define") ∷ []
+
 abbrev pub lint_shape : Shape
-lint_shape = shaped (codes "lint") (linting_rules ++ paths_rule ∷ [])
+lint_shape = shaped (codes "lint") (project_rules ++ project_paths_rule ∷ [])
+
+-- which project and languages are counted
+abbrev pub chosen_rules : List Rule
+chosen_rules = each_rule (codes "reference") ∷ option_rule (codes "locale") ∷ each_rule (codes "define") ∷ []
+
+abbrev pub status_shape : Shape
+status_shape = shaped (codes "status")
+    (chosen_rules ++ flag_rule (codes "files") ∷ default_rule (codes "format") (codes "text") ∷ project_paths_rule ∷ [])
 
 abbrev pub tidy_shape : Shape
 tidy_shape = shaped (codes "tidy") (flag_rule (codes "check") ∷ paths_rule ∷ [])
@@ -95,6 +111,7 @@ program_app = record {
       ∷ format_shape
       ∷ shaped (codes "check") (files_rule ∷ [])
       ∷ lint_shape
+      ∷ status_shape
       ∷ tidy_shape
       ∷ shaped (codes "clean") (file_rule ∷ [])
       ∷ shaped (codes "normalize") (file_rule ∷ [])
@@ -106,7 +123,7 @@ program_app = record {
 
 -- one more command for each way to report on sources
 abbrev pub with_reports : App → App
-with_reports a = with_subcommand (with_command a (codes "check") files_rule) lint_shape
+with_reports a = with_subcommand (with_subcommand (with_command a (codes "check") files_rule) lint_shape) status_shape
 
 -- and for each way to tidy them
 abbrev pub with_tidying : App → App

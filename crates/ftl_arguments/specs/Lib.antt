@@ -1,6 +1,7 @@
 pub mod Commands
 pub mod Found
 pub mod Linting
+pub mod Projects
 pub mod TidyFiles
 pub mod Meaning
 pub mod CommandView

@@ -38,7 +38,8 @@ finding_codes =
     ∷ codes "placeable-in-literal" ∷ codes "unknown-term-argument" ∷ codes "unknown-term-variant" ∷ codes "unknown-category"
     ∷ codes "unused-category" ∷ codes "replacement-character" ∷ codes "control-character" ∷ codes "zero-width" ∷ codes "unbalanced-direction"
     ∷ codes "unused-term" ∷ codes "missing-message" ∷ codes "missing-value" ∷ codes "missing-attribute" ∷ codes "obsolete-value"
-    ∷ codes "obsolete-attribute" ∷ codes "unknown-variable" ∷ codes "missing-variable" ∷ codes "unused-variable" ∷ codes "obsolete-message" ∷ codes "untranslated" ∷ []
+    ∷ codes "obsolete-attribute" ∷ codes "unknown-variable" ∷ codes "missing-variable" ∷ codes "unused-variable" ∷ codes "obsolete-message"
+    ∷ codes "untranslated" ∷ codes "missing-file" ∷ codes "missing-locale" ∷ codes "obsolete-file" ∷ []
 
 abbrev pub is_code : Text → Bool
 is_code name = list_any (λ code. bytes_eq code name) finding_codes

@@ -8,6 +8,7 @@ use Rattle.fluent_serve.specs.Requests.{Request, request_of_parts}
 use Rattle.ftl_arguments.specs.Commands.{program_app}
 use Rattle.ftl_arguments.specs.Found.{is_given, values_in, locale_in, file_in, files_in}
 use Rattle.ftl_arguments.specs.Linting.{Lint, lint_on}
+use Rattle.ftl_arguments.specs.Projects.{ProjectLint, Status, has_own_options, names_project, project_linting, status_in}
 use Rattle.ftl_arguments.specs.TidyFiles.{TidyFiles, is_input, tidy_files_in}
 
 -- answer the request lines of standard input, from the sources in these files
@@ -45,6 +46,8 @@ pub data Asked : Type 0 where
   lint : Lint → Asked
   -- report what is found in standard input, by the same options
   lint_input : Lint → Asked
+  lint_project : ProjectLint → Asked
+  status : Status → Asked
   tidy_files : TidyFiles → Asked
   -- tidy standard input to standard output, or only check it
   tidy_input : Bool → Asked
@@ -91,9 +94,16 @@ format_in rows = option_map (format_with rows) (request_in rows)
 abbrev pub tidy_in : TidyFiles → Asked
 tidy_in t = if is_input t.paths then tidy_input t.check else tidy_files t
 
--- `lint`, of files or of standard input
-abbrev pub linting : Lint → Asked
-linting l = if is_input l.files then lint_input l else lint l
+-- `lint`, of a catalog in files or in standard input, without the options that are of projects
+abbrev pub catalog_linting : List Row → Lint → Option Asked
+catalog_linting rows l =
+    if has_own_options rows then None
+    else if is_input l.files then Some (lint_input l)
+    else Some (lint l)
+
+-- or of a project
+abbrev pub linting : List Row → Lint → Option Asked
+linting rows l = if names_project l.files then option_map lint_project (project_linting rows l) else catalog_linting rows l
 
 -- a command on one file
 abbrev pub on_file : (Text → Tidy) → List Row → Option Asked
@@ -115,7 +125,8 @@ asked_by colours found =
     if bytes_eq found.0 (codes "run") then Some (run (run_in found.1))
     else if bytes_eq found.0 (codes "format") then option_map format (format_in found.1)
     else if bytes_eq found.0 (codes "check") then Some (check (files_in found.1))
-    else if bytes_eq found.0 (codes "lint") then option_map linting (lint_on colours found.1)
+    else if bytes_eq found.0 (codes "lint") then option_and_then (linting found.1) (lint_on colours found.1)
+    else if bytes_eq found.0 (codes "status") then option_map status (status_in found.1)
     else if bytes_eq found.0 (codes "tidy") then Some (tidy_in (tidy_files_in found.1))
     else tidying_by found
 

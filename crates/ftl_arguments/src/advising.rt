@@ -7,11 +7,12 @@ use clap::{ArgMatches, Error};
 use std::alloc::{AllocError, Global};
 
 /// The commands that have help of their own.
-const COMMANDS: [&str; 10] = [
+const COMMANDS: [&str; 11] = [
     "run",
     "format",
     "check",
     "lint",
+    "status",
     "tidy",
     "clean",
     "normalize",

@@ -74,7 +74,10 @@ fn push_codes<'words>(
 }
 
 /// The codes in a value, between commas.
-fn code_list<'words>(alloc: Global, value: &'words str) -> Result<Vec<&'words str>, AllocError>
+pub(crate) fn code_list<'words>(
+    alloc: Global,
+    value: &'words str,
+) -> Result<Vec<&'words str>, AllocError>
     ensures { IfOk result (λ list. texts list.items ≡ code_list value.now) }
 {
     value.split(',').collect(alloc)

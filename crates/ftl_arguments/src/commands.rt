@@ -41,6 +41,10 @@ pub enum Command<'words> {
     Lint(Lint<'words>),
     /// Report what is found in standard input.
     LintInput(Lint<'words>),
+    /// Report what is found in a project.
+    LintProject(ProjectLint<'words>),
+    /// Write what is counted in a project.
+    Status(Status<'words>),
     /// Tidy files in place.
     TidyFiles(TidyFiles<'words>),
     /// Tidy standard input to standard output.
@@ -95,6 +99,63 @@ pub struct Lint<'words> {
     pub format: ReportFormat,
     /// The names of the sources' files, and of folders with such files.
     pub files: Vec<&'words str>,
+}
+
+/// Which project is meant, and which of its languages.
+#[derive(Debug, PartialEq, Eq, Drop)]
+pub struct ProjectWords<'words> {
+    /// Patterns of the files that are translated from, each at the index of that of its
+    /// translations.
+    pub references: Vec<&'words str>,
+    /// The name of the project's file, or patterns of translations. Without any, the file is looked
+    /// for.
+    pub files: Vec<&'words str>,
+    /// The tags of the languages. Without any, all are meant.
+    pub locales: Vec<&'words str>,
+    /// The names and values of variables, which count before those of the file.
+    pub variables: Vec<(&'words str, &'words str)>,
+}
+
+/// Which project is linted, and how findings are reported.
+#[derive(Debug, PartialEq, Eq, Drop)]
+pub struct ProjectLint<'words> {
+    /// The project.
+    pub project: ProjectWords<'words>,
+    /// The names of the files that are reported, and of folders with such files. Without any, all
+    /// are.
+    pub only: Vec<&'words str>,
+    /// The names of the functions that the program adds.
+    pub functions: Vec<&'words str>,
+    /// The codes of findings that are left out.
+    pub ignored: Vec<&'words str>,
+    /// Whether notes are reported, too.
+    pub notes: bool,
+    /// Whether warnings count for the status.
+    pub strict: bool,
+    /// How findings are written.
+    pub format: ReportFormat,
+}
+
+/// Which project is counted, and how the table is written.
+#[derive(Debug, PartialEq, Eq, Drop)]
+pub struct Status<'words> {
+    /// The project.
+    pub project: ProjectWords<'words>,
+    /// Whether each file has a line, too.
+    pub files: bool,
+    /// How the table is written.
+    pub format: TableFormat,
+}
+
+/// How a table is written.
+#[derive(Clone, Copy, Debug, PartialEq, Eq)]
+pub enum TableFormat {
+    /// In columns, for people.
+    Text,
+    /// An object of JSON on a line of its own for each line.
+    Json,
+    /// As a table of Markdown.
+    Markdown,
 }
 
 /// Which files are tidied in place.

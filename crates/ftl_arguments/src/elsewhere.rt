@@ -36,7 +36,6 @@ fn option_of_lint(word: &str) -> Option<&'static str> {
         "--output-format" | "--output" | "-o" => Some("did you mean '--format'?"),
         "-q" | "--quiet" | "--compact" => Some("did you mean '--format line'?"),
         "--no-color" | "--no-colors" => Some("did you mean '--color never'?"),
-        "--only" => Some("did you mean '--select'?"),
         "--disable" | "--exclude" | "--skip" => Some("did you mean '--ignore'?"),
         "--fix" => Some("did you mean 'ftl tidy'?"),
         "--source" | "--base" => Some("did you mean '--reference'?"),

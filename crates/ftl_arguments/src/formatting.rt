@@ -62,7 +62,7 @@ fn arguments_in<'words>(
 }
 
 /// The arguments that the words are. `None` if one is none.
-fn read_arguments<'words>(
+pub(crate) fn read_arguments<'words>(
     alloc: Global,
     words: &[&'words str],
 ) -> Result<Option<Vec<(&'words str, &'words str)>>, AllocError>

@@ -13,12 +13,17 @@ mod errors;
 mod formatting;
 mod linting;
 mod program;
+mod projects;
 mod reading;
 mod refusals;
+mod status;
 mod tidying;
 mod version;
 
-pub use commands::{Command, Format, Invocation, Lint, Tidy, TidyFiles};
+pub use commands::{
+    Command, Format, Invocation, Lint, ProjectLint, ProjectWords, Status, TableFormat, Tidy,
+    TidyFiles,
+};
 pub use errors::CommandError;
 pub use lint_report::Format as ReportFormat;
 pub use reading::command;

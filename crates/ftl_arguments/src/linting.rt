@@ -5,20 +5,19 @@ ghost use Rattle.ftl_arguments.specs.Linting.{colours_in, colours_named, format_
 ghost use Rattle.ftl_arguments.specs.Linting.{functions_in, has_what_it_counts, is_any, is_code, is_function_name, is_selecting, references_in};
 ghost use Rattle.ftl_arguments.specs.Found.{is_given};
 ghost use Rattle.fluent_grammar.specs.Words.{begins, is_callee_byte, is_capital};
-ghost use Rattle.ftl_arguments.specs.Meaning.{linting, texts};
-ghost use Rattle.ftl_arguments.specs.CommandView.{command_view, found_rows, lint_view, IfRefused};
+ghost use Rattle.ftl_arguments.specs.Meaning.{texts};
+ghost use Rattle.ftl_arguments.specs.CommandView.{found_rows, lint_view, IfRefused};
 ghost use Rattle.lint_report.specs.Formats.{format_view};
 
 use crate::codes::{ignored_in, is_any};
-use crate::commands::{Command, Lint};
+use crate::commands::Lint;
 use crate::reading::{WordsError, is_given, locale_in, values_in};
-use crate::tidying::is_input;
 use clap::ArgMatches;
 use lint_report::Format as ReportFormat;
 use std::alloc::Global;
 
 /// The codes that findings have.
-pub(crate) const CODES: [&str; 35] = [
+pub(crate) const CODES: [&str; 38] = [
     "syntax",
     "byte-order-mark",
     "duplicate-id",
@@ -54,6 +53,9 @@ pub(crate) const CODES: [&str; 35] = [
     "unused-variable",
     "obsolete-message",
     "untranslated",
+    "missing-file",
+    "missing-locale",
+    "obsolete-file",
 ];
 
 /// What was found for `lint`.
@@ -87,18 +89,6 @@ pub(crate) fn lint_in<'words>(
         format,
         files: values_in(alloc, found, "PATH")?,
     })
-}
-
-/// The command: on the files that the paths stand for, or on standard input if a hyphen is the only
-/// path.
-pub(crate) fn linting(lint: Lint<'_>) -> Command<'_>
-    ensures { command_view result ≡ linting (lint_view lint.entry) }
-{
-    if is_input(&lint.files) {
-        Command::LintInput(lint)
-    } else {
-        Command::Lint(lint)
-    }
 }
 
 /// The functions that the program adds, if messages can call them.

@@ -5,9 +5,10 @@ ghost use Rattle.ftl_arguments.specs.Commands.{IsShaped, IsLocal, shaped, with_c
 ghost use Rattle.ftl_arguments.specs.Commands.{flag_rule, option_rule, each_rule, default_rule};
 ghost use Rattle.ftl_arguments.specs.Commands.{id_rule, file_rule, files_rule};
 ghost use Rattle.ftl_arguments.specs.Commands.{bare_program, program_app, asking_rules, flagged_rules, format_shape, run_shape};
-ghost use Rattle.ftl_arguments.specs.Commands.{filtered_rules, known_rules, lint_shape, linting_rules, reported_rules, with_reports, with_tidying};
+ghost use Rattle.ftl_arguments.specs.Commands.{filtered_rules, known_rules, lint_shape, linting_rules, project_paths_rule, project_rules, reported_rules, with_reports, with_tidying};
 
-use crate::tidying::{paths, with_tidy};
+use crate::status::{only, project_paths, variable, with_status};
+use crate::tidying::{PATHS, with_tidy};
 use crate::version::VERSION;
 use clap::{Arg, ArgAction, Command};
 use std::alloc::{AllocError, Global};
@@ -20,14 +21,20 @@ each after a tab: NAME=VALUE.
 Example: printf 'welcome\\tname=Jane\\n' | ftl run hello.ftl";
 
 /// What follows the options in the help of `lint`.
-const CODES_AND_EXAMPLE: &str = "Codes:
+const CODES_AND_EXAMPLE: &str =
+    "Without PATH, the project of the first l10n.toml here or in a folder above is linted. PATH can
+be such a file, too, or patterns, as 'l10n/{locale}/**' with --reference 'l10n/en/**'. In a
+project --locale chooses languages; several as a,b.
+
+Codes:
   syntax, byte-order-mark, duplicate-id, unknown-message, unknown-term, unknown-attribute,
   no-value, no-default, cyclic-reference, unknown-function, duplicate-attribute,
   duplicate-variant, invalid-escape, unknown-option, missing-category, placeable-in-literal,
   unknown-term-argument, unknown-term-variant, unknown-category, unused-category,
   replacement-character, control-character, zero-width, unbalanced-direction, unused-term,
   missing-message, missing-value, missing-attribute, obsolete-value, obsolete-attribute,
-  unknown-variable, missing-variable, unused-variable, obsolete-message, untranslated
+  unknown-variable, missing-variable, unused-variable, obsolete-message, untranslated,
+  missing-file, missing-locale, obsolete-file
 
 Example: ftl lint --reference locales/en locales/de";
 
@@ -53,7 +60,8 @@ fn with_reports<'a>(alloc: Global, program: Command<'a>) -> Result<Command<'a>, 
         "check",
         "Report syntax errors and duplicate ids, for programs; `lint` says more",
     )?;
-    with_lint(alloc, program)
+    let program = with_lint(alloc, program)?;
+    with_status(alloc, program)
 }
 
 /// The program with the commands that tidy sources, too.
@@ -183,12 +191,26 @@ fn with_lint<'a>(alloc: Global, program: Command<'a>) -> Result<Command<'a>, All
 fn lint<'a>(alloc: Global) -> Result<Command<'a>, AllocError>
     ensures { IfOk result (IsShaped lint_shape) }
 {
-    reporting(alloc)?
+    in_project(alloc)?
         .after_help(CODES_AND_EXAMPLE)
-        .arg(paths(alloc))
+        .arg(lint_paths(alloc))
+}
+
+/// The files that `lint` is on.
+fn lint_paths<'a>(alloc: Global) -> Arg<'a>
+    ensures { IsLocal project_paths_rule result }
+{
+    project_paths(alloc).help(PATHS)
 }
 
 /// The command `lint` without its paths.
+fn in_project<'a>(alloc: Global) -> Result<Command<'a>, AllocError>
+    ensures { IfOk result (IsShaped (shaped (codes "lint") project_rules)) }
+{
+    reporting(alloc)?.arg(only(alloc))?.arg(variable(alloc))
+}
+
+/// The same without the options that are of projects alone.
 fn reporting<'a>(alloc: Global) -> Result<Command<'a>, AllocError>
     ensures { IfOk result (IsShaped (shaped (codes "lint") linting_rules)) }
 {
@@ -260,21 +282,26 @@ pub(crate) fn flag<'a>(alloc: Global, name: &'a str) -> Arg<'a>
 }
 
 /// An option of this name with one value, which help calls so.
-fn option<'a>(alloc: Global, name: &'a str, value: &'a str) -> Arg<'a>
+pub(crate) fn option<'a>(alloc: Global, name: &'a str, value: &'a str) -> Arg<'a>
     ensures { IsLocal (option_rule name.entry.now) result }
 {
     Arg::new(alloc, name).long(name).value_name(value)
 }
 
 /// An option of this name with one value, which it has if it isn't given, too.
-fn option_or<'a>(alloc: Global, name: &'a str, value: &'a str, default: &'a str) -> Arg<'a>
+pub(crate) fn option_or<'a>(
+    alloc: Global,
+    name: &'a str,
+    value: &'a str,
+    default: &'a str,
+) -> Arg<'a>
     ensures { IsLocal (default_rule name.entry.now default.entry.now) result }
 {
     option(alloc, name, value).default_value(default)
 }
 
 /// An option of this name that may come more than once, with one value each, which help calls so.
-fn each<'a>(alloc: Global, name: &'a str, value: &'a str) -> Arg<'a>
+pub(crate) fn each<'a>(alloc: Global, name: &'a str, value: &'a str) -> Arg<'a>
     ensures { IsLocal (each_rule name.entry.now) result }
 {
     option(alloc, name, value).action(ArgAction::Append)
@@ -294,7 +321,7 @@ fn function<'a>(alloc: Global) -> Arg<'a>
     ensures { IsLocal (each_rule (codes "function")) result }
 {
     each(alloc, "function", "NAME").help(
-        "A function that your program provides, as DATETIME (repeatable)",
+        "A function that your program provides, as PLATFORM (repeatable)",
     )
 }
 

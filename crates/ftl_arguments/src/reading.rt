@@ -12,8 +12,8 @@ use crate::colours::lint_on;
 use crate::commands::{Command, Invocation, Tidy};
 use crate::errors::CommandError;
 use crate::formatting::format_in;
-use crate::linting::linting;
 use crate::program::program;
+use crate::projects::{linting, status_in};
 use crate::tidying::tidy_in;
 use crate::version::version_line;
 use clap::error::ErrorKind;
@@ -152,7 +152,8 @@ fn command_named<'words>(
         "check" => Ok(Command::Check {
             files: files_in(alloc, found)?,
         }),
-        "lint" => Ok(linting(lint_on(alloc, found, colours)?)),
+        "lint" => linting(alloc, found, lint_on(alloc, found, colours)?),
+        "status" => Ok(Command::Status(status_in(alloc, found)?)),
         "tidy" => Ok(tidy_in(alloc, found)?),
         _ => tidying_named(alloc, name, found),
     }

@@ -1,6 +1,7 @@
 //! What `clap` lets pass, and the program doesn't.
 
 use crate::linting::{CODES, colours_named, format_named, is_code, is_function_name};
+use crate::projects::{names_project, table_format_named};
 use clap::ArgMatches;
 use std::alloc::{AllocError, Global};
 use strsim::jaro;
@@ -21,6 +22,16 @@ pub(crate) enum Refused<'words> {
     },
     /// Counts without a reference.
     Counts,
+    /// An option that is of projects alone.
+    NoProject {
+        option: &'static str,
+    },
+    /// A reference without patterns of translations.
+    NoPatterns,
+    /// Counts of a project.
+    ProjectCounts,
+    /// Paths that name no project.
+    NoProjectNamed,
 }
 
 impl<'words> Refused<'words> {
@@ -29,6 +40,7 @@ impl<'words> Refused<'words> {
         match matches.subcommand()? {
             ("lint", found) => refused_by_lint(found),
             ("format", found) => refused_by_format(found),
+            ("status", found) => refused_by_status(found),
             _ => None,
         }
     }
@@ -46,13 +58,80 @@ impl<'words> Refused<'words> {
             } => format!(in alloc; "{option} takes {choices}, and not '{value}';"),
             Refused::Code { option, code } => reason_of_code(alloc, option, code),
             Refused::Counts => String::from_str(alloc, "--counts needs --reference;"),
+            Refused::NoProject { option } => {
+                format!(in alloc; "{option} is of projects, and these paths are none;")
+            }
+            Refused::NoPatterns => String::from_str(
+                alloc,
+                "--reference needs files or folders, or patterns as 'l10n/{locale}/**';",
+            ),
+            Refused::ProjectCounts => String::from_str(
+                alloc,
+                "--counts is of files and folders; ftl status counts a project;",
+            ),
+            Refused::NoProjectNamed => String::from_str(
+                alloc,
+                "a project is an l10n.toml, or patterns as 'l10n/{locale}/**';",
+            ),
         }
     }
 }
 
 /// What `lint` refuses.
 fn refused_by_lint<'words>(found: &ArgMatches<'words>) -> Option<Refused<'words>> {
-    refused_way(found).or_else(|| refused_name(found))
+    refused_way(found)
+        .or_else(|| refused_name(found))
+        .or_else(|| refused_project(found))
+}
+
+/// What doesn't go with paths that name a project, or with others.
+fn refused_project<'words>(found: &ArgMatches<'words>) -> Option<Refused<'words>> {
+    let paths = found.get_raw("PATH").unwrap_or(&[]);
+    if names_project(paths) {
+        if found.get_str("counts") == Some("true") {
+            return Some(Refused::ProjectCounts);
+        }
+        return refused_of_project(found);
+    }
+    if found.get_raw("only").is_some() {
+        return Some(Refused::NoProject { option: "--only" });
+    }
+    if found.get_raw("define").is_some() {
+        return Some(Refused::NoProject { option: "--define" });
+    }
+    None
+}
+
+/// What the words of a project may not be.
+fn refused_of_project<'words>(found: &ArgMatches<'words>) -> Option<Refused<'words>> {
+    let variables = found.get_raw("define").unwrap_or(&[]);
+    if let Some(variable) = variables.iter().find(|variable| !variable.contains('=')) {
+        return Some(Refused::Value {
+            option: "--define",
+            choices: "NAME=VALUE",
+            value: *variable,
+        });
+    }
+    if found.get_raw("reference").is_some() {
+        return Some(Refused::NoPatterns);
+    }
+    None
+}
+
+/// What `status` refuses.
+fn refused_by_status<'words>(found: &ArgMatches<'words>) -> Option<Refused<'words>> {
+    let format = found.get_str("format")?;
+    if table_format_named(format).is_none() {
+        return Some(Refused::Value {
+            option: "--format",
+            choices: "text, json or markdown",
+            value: format,
+        });
+    }
+    if !names_project(found.get_raw("PATH").unwrap_or(&[])) {
+        return Some(Refused::NoProjectNamed);
+    }
+    refused_of_project(found)
 }
 
 /// A way to write findings that there isn't.
@@ -85,7 +164,7 @@ fn refused_name<'words>(found: &ArgMatches<'words>) -> Option<Refused<'words>> {
     if let Some(name) = functions.iter().find(|name| !is_function_name(name)) {
         return Some(Refused::Value {
             option: "--function",
-            choices: "a name in capital letters, as DATETIME",
+            choices: "a name in capital letters, as PLATFORM",
             value: *name,
         });
     }

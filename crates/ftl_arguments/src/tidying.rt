@@ -13,7 +13,7 @@ use clap::{Arg, ArgMatches, Command};
 use std::alloc::{AllocError, Global};
 
 /// The paths of `lint` and of `tidy`, for their help.
-const PATHS: &str =
+pub(crate) const PATHS: &str =
     "Files, and folders with each `.ftl` file below them; `-` alone is standard input";
 
 /// What follows the options in the help of `tidy`.

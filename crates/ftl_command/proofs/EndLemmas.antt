@@ -1,5 +1,5 @@
 -- What devices tell of a run of the program, and when words are refused.
-use Rattle.std.proofs.Common.{◌≡◌, ◌∙◌, ℕ, Bool, List, [], ◌∷◌, Option, None, Some, Result, Ok, Err, IfErr, ap, option_map, string_bytes, sym, inl, inr}
+use Rattle.std.proofs.Common.{◌≡◌, ◌∙◌, ℕ, Bool, List, [], ◌∷◌, Option, None, Some, Result, Ok, Err, IfErr, ap, option_map, string_bytes, subst, sym, inl, inr}
 use Rattle.std.specs.Global.{Global}
 use Rattle.std.specs.Prelude.{String}
 use Rattle.fluent_serve.specs.Text.{Text}
@@ -16,15 +16,15 @@ use Rattle.ftl_arguments.specs.declared.commands.Invocation.TheVariants as of
 use Rattle.clap.specs.Words.{IsAmong, subcommand_of}
 use Rattle.clap.specs.declared.error.kind.ErrorKind.{ErrorKind}
 use Rattle.clap.specs.declared.error.kind.ErrorKind.TheVariants.{DisplayHelp, DisplayVersion}
-use Rattle.ftl_arguments.specs.Meaning.{AskForHelp, AskForText, AskForVersion, AskForVersionAlone, Asked, asked_of, command_of, faults_of, without_faults, run, format, check, lint, lint_input, tidy_files, tidy_input, tidy}
+use Rattle.ftl_arguments.specs.Meaning.{AskForHelp, AskForText, AskForVersion, AskForVersionAlone, Asked, asked_of, command_of, faults_of, without_faults, run, format, check, lint, lint_input, lint_project, status, tidy_files, tidy_input, tidy}
 use Rattle.ftl_command.specs.Ends.{seen, IsUntouched}
 use Rattle.ftl_command.specs.Faults.{IsBadLine, SaysUnknown, status_of}
 use Rattle.std.proofs.lemmas.Result.{IfErr-weaker}
 use Rattle.ftl_command.specs.Program.{IsRefused, ShowsVersionOn, WithoutInput, locale_named}
-use Rattle.ftl_command.specs.Refusals.{AnswersHelp}
+use Rattle.ftl_command.specs.Refusals.{AnswersHelp, IsRight}
 use Rattle.ftl_command.specs.declared.ended.Ended.{Ended}
 use Rattle.ftl_command.specs.declared.fault.Fault.{Fault}
-use Rattle.ftl_command.specs.declared.fault.Fault.TheVariants.{CarriageReturn, NotNormal, NotTree, NotJson, NoMessage, CommandLine, UnknownLocale, FileUnreadable, FileNotUtf8, Input, Output, Memory}
+use Rattle.ftl_command.specs.declared.fault.Fault.TheVariants.{CarriageReturn, NotNormal, NotTree, NotJson, NoMessage, CommandLine, Project, UnknownLocale, FileUnreadable, FileNotUtf8, Input, Output, Memory}
 use Rattle.ftl_command.specs.declared.plurals.RunPlurals.TheVariants.{Language}
 use Rattle.fluent_plurals.specs.Plurals.{plurals_for}
 use Rattle.ftl_command.specs.Plurals.{plurals_asked}
@@ -40,6 +40,8 @@ without_input (Some (format x)) f p = f p
 without_input (Some (check files)) f p = f p
 without_input (Some (lint l)) f p = f p
 without_input (Some (lint_input l)) f p = tt
+without_input (Some (lint_project l)) f p = f p
+without_input (Some (status s)) f p = f p
 without_input (Some (tidy_files t)) f p = f p
 without_input (Some (tidy_input checked)) f p = tt
 without_input (Some (tidy t)) f p = f p
@@ -52,24 +54,42 @@ refused_run (Some (format f)) tag named unknown = ap plurals_asked named ∙ ap 
 refused_run (Some (check files)) tag named unknown = absurd cc
 refused_run (Some (lint l)) tag named unknown = tt
 refused_run (Some (lint_input l)) tag named unknown = tt
+refused_run (Some (lint_project l)) tag named unknown = tt
+refused_run (Some (status s)) tag named unknown = tt
 refused_run (Some (tidy_files t)) tag named unknown = tt
 refused_run (Some (tidy_input checked)) tag named unknown = absurd cc
 refused_run (Some (tidy t)) tag named unknown = absurd cc
 
+-- a project is wrong only if one is asked for
+refused_project : (contents : Text → Option Text) (asked : Option Asked) (text : String Global) → IsRight contents asked (Project text) → IsRefused asked
+refused_project contents None text right = tt
+refused_project contents (Some (run r)) text right = absurd right
+refused_project contents (Some (format f)) text right = absurd right
+refused_project contents (Some (check files)) text right = absurd right
+refused_project contents (Some (lint l)) text right = tt
+refused_project contents (Some (lint_input l)) text right = tt
+refused_project contents (Some (lint_project l)) text right = tt
+refused_project contents (Some (status s)) text right = tt
+refused_project contents (Some (tidy_files t)) text right = tt
+refused_project contents (Some (tidy_input checked)) text right = absurd right
+refused_project contents (Some (tidy t)) text right = absurd right
+
 -- words with status 2 are refused
-pub refused_by : (asked : Option Asked) (fault : Fault) → (IsBadLine fault → asked ≡ None) → SaysUnknown (locale_named asked) fault → status_of fault ≡ 2 → IsRefused asked
-refused_by asked (CarriageReturn place) bad says is = absurd cc
-refused_by asked (NotNormal report) bad says is = absurd cc
-refused_by asked NotTree bad says is = absurd cc
-refused_by asked NotJson bad says is = absurd cc
-refused_by asked (NoMessage meant) bad says is = absurd cc
-refused_by asked (CommandLine advice) bad says is = rw (bad tt) tt
-refused_by asked (UnknownLocale tag) bad says is = refused_run asked tag.now says.0 says.1
-refused_by asked (FileUnreadable file why meant) bad says is = absurd cc
-refused_by asked (FileNotUtf8 file row) bad says is = absurd cc
-refused_by asked Input bad says is = absurd cc
-refused_by asked Output bad says is = absurd cc
-refused_by asked Memory bad says is = absurd cc
+pub refused_by : (contents : Text → Option Text) (asked : Option Asked) (fault : Fault) → (IsBadLine fault → asked ≡ None) → SaysUnknown (locale_named asked) fault →
+    IsRight contents asked fault → status_of fault ≡ 2 → IsRefused asked
+refused_by contents asked (CarriageReturn place) bad says right is = absurd cc
+refused_by contents asked (NotNormal report) bad says right is = absurd cc
+refused_by contents asked NotTree bad says right is = absurd cc
+refused_by contents asked NotJson bad says right is = absurd cc
+refused_by contents asked (NoMessage meant) bad says right is = absurd cc
+refused_by contents asked (CommandLine advice) bad says right is = rw (bad tt) tt
+refused_by contents asked (Project text) bad says right is = refused_project contents asked text right
+refused_by contents asked (UnknownLocale tag) bad says right is = refused_run asked tag.now says.0 says.1
+refused_by contents asked (FileUnreadable file why meant) bad says right is = absurd cc
+refused_by contents asked (FileNotUtf8 file row) bad says right is = absurd cc
+refused_by contents asked Input bad says right is = absurd cc
+refused_by contents asked Output bad says right is = absurd cc
+refused_by contents asked Memory bad says right is = absurd cc
 
 -- with a fault of the words nothing is asked for
 pub nothing_asked : (colours : Bool) (words : List Text) (kind : ErrorKind) → faults_of words ≡ kind ∷ [] → command_of colours words ≡ None
@@ -81,21 +101,29 @@ no_locale_named colours words kind tag alone named =
     let both : ◌≡◌ {A = Option Text} None (Some tag) = sym (ap locale_named (nothing_asked colours words kind alone)) ∙ named in
     absurd cc
 
+-- nor is a project
+no_project_asked : (contents : Text → Option Text) (colours : Bool) (words : List Text) (kind : ErrorKind) (text : String Global) → faults_of words ≡ kind ∷ [] →
+    IsRight contents (command_of colours words) (Project text) → ⊥
+no_project_asked contents colours words kind text alone right =
+    let nothing : IsRight contents None (Project text) = subst (λ asked. IsRight contents asked (Project text)) (nothing_asked colours words kind alone) right in
+    nothing
+
 -- words with status 2 are no request for help alone, or for the version alone
-pub not_alone_by : (colours : Bool) (words : List Text) (kind : ErrorKind) (fault : Fault) → (IsBadLine fault → faults_of words ≡ kind ∷ [] → ⊥) →
-    SaysUnknown (locale_named (command_of colours words)) fault → status_of fault ≡ 2 → faults_of words ≡ kind ∷ [] → ⊥
-not_alone_by colours words kind (CarriageReturn place) bad says is alone = absurd cc
-not_alone_by colours words kind (NotNormal report) bad says is alone = absurd cc
-not_alone_by colours words kind NotTree bad says is alone = absurd cc
-not_alone_by colours words kind NotJson bad says is alone = absurd cc
-not_alone_by colours words kind (NoMessage meant) bad says is alone = absurd cc
-not_alone_by colours words kind (CommandLine advice) bad says is alone = bad tt alone
-not_alone_by colours words kind (UnknownLocale tag) bad says is alone = no_locale_named colours words kind tag.now alone says.0
-not_alone_by colours words kind (FileUnreadable file why meant) bad says is alone = absurd cc
-not_alone_by colours words kind (FileNotUtf8 file row) bad says is alone = absurd cc
-not_alone_by colours words kind Input bad says is alone = absurd cc
-not_alone_by colours words kind Output bad says is alone = absurd cc
-not_alone_by colours words kind Memory bad says is alone = absurd cc
+pub not_alone_by : (contents : Text → Option Text) (colours : Bool) (words : List Text) (kind : ErrorKind) (fault : Fault) → (IsBadLine fault → faults_of words ≡ kind ∷ [] → ⊥) →
+    SaysUnknown (locale_named (command_of colours words)) fault → IsRight contents (command_of colours words) fault → status_of fault ≡ 2 → faults_of words ≡ kind ∷ [] → ⊥
+not_alone_by contents colours words kind (CarriageReturn place) bad says right is alone = absurd cc
+not_alone_by contents colours words kind (NotNormal report) bad says right is alone = absurd cc
+not_alone_by contents colours words kind NotTree bad says right is alone = absurd cc
+not_alone_by contents colours words kind NotJson bad says right is alone = absurd cc
+not_alone_by contents colours words kind (NoMessage meant) bad says right is alone = absurd cc
+not_alone_by contents colours words kind (CommandLine advice) bad says right is alone = bad tt alone
+not_alone_by contents colours words kind (Project text) bad says right is alone = no_project_asked contents colours words kind text alone right
+not_alone_by contents colours words kind (UnknownLocale tag) bad says right is alone = no_locale_named colours words kind tag.now alone says.0
+not_alone_by contents colours words kind (FileUnreadable file why meant) bad says right is alone = absurd cc
+not_alone_by contents colours words kind (FileNotUtf8 file row) bad says right is alone = absurd cc
+not_alone_by contents colours words kind Input bad says right is alone = absurd cc
+not_alone_by contents colours words kind Output bad says right is alone = absurd cc
+not_alone_by contents colours words kind Memory bad says right is alone = absurd cc
 
 -- words that ask for one of the texts alone name no command
 pub no_command_asked : (colours : Bool) (words : List Text) (kind : ErrorKind) (asked : Asked) → faults_of words ≡ kind ∷ [] → command_of colours words ≡ Some asked → ⊥

@@ -3,7 +3,7 @@ use Rattle.std.proofs.Common.{◌≡◌, ◌∙◌, ℕ, Bool, true, false, List
 use Rattle.fluent_serve.specs.Text.{Text}
 use Rattle.fluent_serve.specs.Exchange.{Devices}
 use Rattle.clap.specs.declared.error.kind.ErrorKind.{ErrorKind}
-use Rattle.ftl_arguments.specs.Meaning.{Asked, Format, command_of, faults_of, run, format, check, lint, lint_input, tidy_files, tidy_input, tidy}
+use Rattle.ftl_arguments.specs.Meaning.{Asked, Format, command_of, faults_of, run, format, check, lint, lint_input, lint_project, status, tidy_files, tidy_input, tidy}
 use Rattle.ftl_files.specs.Tidying.{FileEnd, kept, changed, failed, refused, out_of_memory}
 use Rattle.fluent_serve.specs.Frames.{Reply, ended}
 use Rattle.ftl_command.specs.Faults.{end_status}
@@ -59,6 +59,8 @@ refused_end contents d (Some (format f)) end done two = absurd (format_isnt cont
 refused_end contents d (Some (check files)) end done two = absurd (check_isnt _ end done.outcome.1 two)
 refused_end contents d (Some (lint l)) end done two = tt
 refused_end contents d (Some (lint_input l)) end done two = tt
+refused_end contents d (Some (lint_project l)) end done two = tt
+refused_end contents d (Some (status s)) end done two = tt
 refused_end contents d (Some (tidy_files t)) end done two = tt
 refused_end contents d (Some (tidy_input checked)) end done two =
     absurd (input_isnt checked done.tidied.end (sym done.tidied.outcome.1.status ∙ two))

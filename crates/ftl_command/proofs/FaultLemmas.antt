@@ -15,7 +15,7 @@ use Rattle.ftl_files.specs.declared.folder.Folder.{Ghosts as FolderGhosts}
 use Rattle.ftl_command.specs.declared.ended.Ended.{Ended}
 use Rattle.ftl_command.specs.declared.ended.Ended.TheVariants.{Done, Found, Incomplete, NoFile, Partial, OutOfMemory}
 use Rattle.ftl_command.specs.declared.fault.Fault.{Fault}
-use Rattle.ftl_command.specs.declared.fault.Fault.TheVariants.{CarriageReturn, NotNormal, NotTree, NotJson, NoMessage, CommandLine, UnknownLocale, FileUnreadable, FileNotUtf8, Input, Output, Memory}
+use Rattle.ftl_command.specs.declared.fault.Fault.TheVariants.{CarriageReturn, NotNormal, NotTree, NotJson, NoMessage, CommandLine, Project, UnknownLocale, FileUnreadable, FileNotUtf8, Input, Output, Memory}
 
 -- a list of one name has no other
 only_name : (front behind : List Text) (name file : Text) → name ∷ [] ≡ front ++ file ∷ behind → name ≡ file
@@ -67,6 +67,7 @@ with_meant folders before after files NotTree other is of = rw is of
 with_meant folders before after files NotJson other is of = rw is of
 with_meant folders before after files (NoMessage meant) other is of = rw is of
 with_meant folders before after files (CommandLine advice) other is of = rw is of
+with_meant folders before after files (Project text) other is of = rw is of
 with_meant folders before after files (UnknownLocale tag) other is of = rw is of
 with_meant folders before after files (FileUnreadable file why meant) other is of =
     rw is.is (record { of_files = of.of_files; says = record { reached = of.says.reached; not_utf8 = tt; unreadable = of.says.unreadable } })
@@ -93,6 +94,7 @@ status_of-among NotTree = Contains-get_or (0 ∷ 1 ∷ 2 ∷ 3 ∷ 4 ∷ []) 1 0
 status_of-among NotJson = Contains-get_or (0 ∷ 1 ∷ 2 ∷ 3 ∷ 4 ∷ []) 1 0 (lit< tt)
 status_of-among (NoMessage meant) = Contains-get_or (0 ∷ 1 ∷ 2 ∷ 3 ∷ 4 ∷ []) 1 0 (lit< tt)
 status_of-among (CommandLine advice) = Contains-get_or (0 ∷ 1 ∷ 2 ∷ 3 ∷ 4 ∷ []) 2 0 (lit< tt)
+status_of-among (Project text) = Contains-get_or (0 ∷ 1 ∷ 2 ∷ 3 ∷ 4 ∷ []) 2 0 (lit< tt)
 status_of-among (UnknownLocale tag) = Contains-get_or (0 ∷ 1 ∷ 2 ∷ 3 ∷ 4 ∷ []) 2 0 (lit< tt)
 status_of-among (FileUnreadable file why meant) = Contains-get_or (0 ∷ 1 ∷ 2 ∷ 3 ∷ 4 ∷ []) 3 0 (lit< tt)
 status_of-among (FileNotUtf8 file row) = Contains-get_or (0 ∷ 1 ∷ 2 ∷ 3 ∷ 4 ∷ []) 3 0 (lit< tt)
@@ -108,6 +110,7 @@ never_zero NotTree is = absurd cc
 never_zero NotJson is = absurd cc
 never_zero (NoMessage meant) is = absurd cc
 never_zero (CommandLine advice) is = absurd cc
+never_zero (Project text) is = absurd cc
 never_zero (UnknownLocale tag) is = absurd cc
 never_zero (FileUnreadable file why meant) is = absurd cc
 never_zero (FileNotUtf8 file row) is = absurd cc

@@ -5,6 +5,7 @@ pub mod FormatLemmas
 pub mod InPlaceLemmas
 pub mod InputLemmas
 pub mod LintLemmas
+pub mod ProjectLemmas
 pub mod Refusals
 pub mod RunLemmas
 pub mod TellLemmas

@@ -8,9 +8,12 @@ use Rattle.fluent_serve.specs.Text.{Text}
 use Rattle.fluent_serve.specs.Devices.{HasFailed}
 use Rattle.fluent_serve.specs.declared.stream.Sink.{Ghosts as SinkGhosts}
 use Rattle.fluent_serve.specs.declared.stream.Source.{Ghosts as SourceGhosts}
-use Rattle.ftl_arguments.specs.Meaning.{Asked, Format, Tidy, run, format, check, lint, lint_input, tidy_files, tidy_input, tidy}
+use Rattle.ftl_arguments.specs.Meaning.{Asked, Format, Tidy, run, format, check, lint, lint_input, lint_project, status, tidy_files, tidy_input, tidy}
 use Rattle.ftl_arguments.specs.Linting.{Lint}
+use Rattle.ftl_arguments.specs.Projects.{ProjectLint, Status}
 use Rattle.ftl_arguments.specs.TidyFiles.{TidyFiles}
+use Rattle.ftl_project.specs.declared.wrong.ProjectError.{ProjectError}
+use Rattle.ftl_project.specs.declared.wrong.ProjectError.TheVariants as error
 use Rattle.fluent_serve.specs.Exchange.{GivesUp}
 use Rattle.fluent_serve.specs.declared.serve.RunError.{RunError}
 use Rattle.fluent_serve.specs.declared.serve.RunError.TheVariants.{Memory as RunMemory, Read as RunRead, Write as RunWrite}
@@ -20,11 +23,11 @@ use Rattle.fluent_tidy.specs.declared.error.NormalizeError.{NormalizeError}
 use Rattle.fluent_tidy.specs.declared.error.NormalizeError.TheVariants as normalize
 use Rattle.fluent_tidy.specs.declared.error.ImportError.{ImportError}
 use Rattle.fluent_tidy.specs.declared.error.ImportError.TheVariants as import
-use Rattle.ftl_command.specs.Faults.{IsBadLine, IsBeforeInput, IsCleanFault, IsFaultOfFiles, IsNormalizeFault, IsOfLocale, NamesNoFile, ReachesFile, SaysOfFiles, SaysReturn, SaysUnknown, import_fault, run_fault}
+use Rattle.ftl_command.specs.Faults.{IsBadLine, IsBeforeInput, IsCleanFault, IsFaultOfFiles, IsNormalizeFault, IsOfLocale, NamesNoFile, ReachesFile, SaysOfFiles, SaysReturn, SaysUnknown, import_fault, project_fault, run_fault}
 use Rattle.ftl_command.specs.Program.{UnlessListed, files_named, locale_named}
-use Rattle.ftl_command.specs.Refusals.{DevicesEnd, HaveNoNormalText, HoldNoTree, HoldReturn, IsDeviceFault, IsEarlyFault, IsFaultOf, IsOfStreams, IsReadFault, IsRight, IsRightOf, IsTextFault, RefusesNothing, SaysNoMessage, SaysOfNamed, TextWorks}
+use Rattle.ftl_command.specs.Refusals.{DevicesEnd, HaveNoNormalText, HoldNoTree, HoldReturn, IsDeviceFault, IsEarlyFault, IsFaultOf, IsOfProject, IsOfStreams, IsReadFault, IsRight, IsRightOf, IsTextFault, RefusesNothing, RefusesProject, SaysNoMessage, SaysOfNamed, TextWorks}
 use Rattle.ftl_command.specs.declared.fault.Fault.{Fault}
-use Rattle.ftl_command.specs.declared.fault.Fault.TheVariants.{CarriageReturn, NotNormal, NotTree, NotJson, NoMessage, CommandLine, UnknownLocale, FileUnreadable, FileNotUtf8, Input, Output, Memory}
+use Rattle.ftl_command.specs.declared.fault.Fault.TheVariants.{CarriageReturn, NotNormal, NotTree, NotJson, NoMessage, CommandLine, Project, UnknownLocale, FileUnreadable, FileNotUtf8, Input, Output, Memory}
 use Rattle.ftl_command.specs.declared.ended.Ended.{Ended}
 use Rattle.ftl_files.specs.Files.{State}
 use Rattle.ftl_files.specs.States.{state_of}
@@ -33,13 +36,24 @@ use Rattle.ftl_files.specs.declared.folder.Folder.{Ghosts as FolderGhosts}
 module _ (contents : Text → Option Text) where
   nothing_of_message : (f : Format) (fault : Fault) → RefusesNothing fault → SaysNoMessage contents f fault
   nothing_of_message f (NoMessage meant) nothing = absurd nothing
+  nothing_of_message f (Project text) nothing = absurd nothing
   nothing_of_message f fault nothing = nothing
+
+  nothing_of_project : (fault : Fault) → RefusesNothing fault → RefusesProject fault
+  nothing_of_project (CarriageReturn place) nothing = absurd nothing
+  nothing_of_project (NotNormal report) nothing = absurd nothing
+  nothing_of_project NotTree nothing = absurd nothing
+  nothing_of_project NotJson nothing = absurd nothing
+  nothing_of_project (NoMessage meant) nothing = absurd nothing
+  nothing_of_project (Project text) nothing = absurd nothing
+  nothing_of_project fault nothing = nothing
 
   nothing_of_tidying : (t : Tidy) (fault : Fault) → RefusesNothing fault → IsRightOf contents t fault
   nothing_of_tidying t (CarriageReturn place) nothing = absurd nothing
   nothing_of_tidying t (NotNormal report) nothing = absurd nothing
   nothing_of_tidying t NotTree nothing = absurd nothing
   nothing_of_tidying t NotJson nothing = absurd nothing
+  nothing_of_tidying t (Project text) nothing = absurd nothing
   nothing_of_tidying t fault nothing = nothing
 
   -- a fault that refuses nothing says nothing of what files hold, whatever the words ask for
@@ -50,6 +64,8 @@ module _ (contents : Text → Option Text) where
   right_by (Some (check files)) fault nothing = nothing
   right_by (Some (lint l)) fault nothing = nothing
   right_by (Some (lint_input l)) fault nothing = nothing
+  right_by (Some (lint_project l)) fault nothing = nothing_of_project fault nothing
+  right_by (Some (status s)) fault nothing = nothing_of_project fault nothing
   right_by (Some (tidy_files t)) fault nothing = nothing
   right_by (Some (tidy_input checked)) fault nothing = nothing
   right_by (Some (tidy t)) fault nothing = nothing_of_tidying t fault nothing
@@ -62,6 +78,8 @@ of_any (Some (format f)) p = p
 of_any (Some (check files)) p = p
 of_any (Some (lint l)) p = tt
 of_any (Some (lint_input l)) p = tt
+of_any (Some (lint_project l)) p = tt
+of_any (Some (status s)) p = tt
 of_any (Some (tidy_files t)) p = tt
 of_any (Some (tidy_input checked)) p = p
 of_any (Some (tidy t)) p = p
@@ -85,6 +103,8 @@ says_of_named (Some (format f)) before after fault says = says
 says_of_named (Some (check files)) before after fault says = says
 says_of_named (Some (lint l)) before after fault says = none_named before.contents fault says.reached
 says_of_named (Some (lint_input l)) before after fault says = none_named before.contents fault says.reached
+says_of_named (Some (lint_project l)) before after fault says = none_named before.contents fault says.reached
+says_of_named (Some (status s)) before after fault says = none_named before.contents fault says.reached
 says_of_named (Some (tidy_files t)) before after fault says = none_named before.contents fault says.reached
 says_of_named (Some (tidy_input checked)) before after fault says = says
 says_of_named (Some (tidy t)) before after fault says = says
@@ -386,6 +406,57 @@ module _ {F : Type 0} (folders : FolderGhosts F) (before after : F) (l : Lint) w
     fault = fault;
     stops = IfErr-weaker result _ _ (unread_device source sink reader writer writer') stops;
   }
+
+-- ---- a project
+
+module _ {F : Type 0} (folders : FolderGhosts F) (before after : F) where
+  project_lint_fault : (l : ProjectLint) (fault : Fault) → IsOfProject fault → IsFaultOf folders before after (Some (lint_project l)) fault
+  project_lint_fault l (Project text) of = record { refused = λ bad. absurd bad; unknown = tt; unopened = λ of. absurd of; files = tt; right = tt }
+  project_lint_fault l Output of = record { refused = λ bad. absurd bad; unknown = tt; unopened = λ of. absurd of; files = tt; right = tt }
+  project_lint_fault l Memory of = record { refused = λ bad. absurd bad; unknown = tt; unopened = λ of. absurd of; files = tt; right = tt }
+  project_lint_fault l fault of = absurd of
+
+  status_fault : (s : Status) (fault : Fault) → IsOfProject fault → IsFaultOf folders before after (Some (status s)) fault
+  status_fault s (Project text) of = record { refused = λ bad. absurd bad; unknown = tt; unopened = λ of. absurd of; files = tt; right = tt }
+  status_fault s Output of = record { refused = λ bad. absurd bad; unknown = tt; unopened = λ of. absurd of; files = tt; right = tt }
+  status_fault s Memory of = record { refused = λ bad. absurd bad; unknown = tt; unopened = λ of. absurd of; files = tt; right = tt }
+  status_fault s fault of = absurd of
+
+  module _ {R W : Type 0} (source : SourceGhosts R) (sink : SinkGhosts W) (reader : R) (writer writer' : W) (result : Result Ended Fault) where
+    -- its report was written
+    pub project_lint_devices : (l : ProjectLint) → OnOk result (sink.failures writer' ≡ sink.failures writer) → IfErr result IsOfProject →
+        IfErr result (IsTextFault sink writer writer') → DevicesEnd folders before after source reader reader sink writer writer' (Some (lint_project l)) result
+    project_lint_devices l writes fault stops = record {
+      opens = on_ok_always result tt;
+      reads = on_ok_always result refl;
+      writes = writes;
+      fault = IfErr-weaker result _ _ (project_lint_fault l) fault;
+      stops = IfErr-weaker result _ _ (unread_device source sink reader writer writer') stops;
+    }
+
+    -- or its table
+    pub status_devices : (s : Status) → OnOk result (sink.failures writer' ≡ sink.failures writer) → IfErr result IsOfProject →
+        IfErr result (IsTextFault sink writer writer') → DevicesEnd folders before after source reader reader sink writer writer' (Some (status s)) result
+    status_devices s writes fault stops = record {
+      opens = on_ok_always result tt;
+      reads = on_ok_always result refl;
+      writes = writes;
+      fault = IfErr-weaker result _ _ (status_fault s) fault;
+      stops = IfErr-weaker result _ _ (unread_device source sink reader writer writer') stops;
+    }
+
+-- the output failed
+pub project_output : (fault : Fault) → fault ≡ Output → IsOfProject fault
+project_output fault is = rw is tt
+
+-- the project is wrong, or memory ran out
+pub of_project : (error : ProjectError) → IsOfProject (project_fault error)
+of_project error.Memory = tt
+of_project (error.Wrong text) = tt
+
+pub project_unwritten : {W : Type 0} (sink : SinkGhosts W) (writer : W) (error : ProjectError) → IsTextFault sink writer writer (project_fault error)
+project_unwritten sink writer error.Memory = text_unwritten sink writer Memory (λ is. absurd cc) (λ is. absurd cc)
+project_unwritten sink writer (error.Wrong text) = text_unwritten sink writer (Project text) (λ is. absurd cc) (λ is. absurd cc)
 
 -- ---- standard input that is linted
 

@@ -7,7 +7,7 @@ use Rattle.std.specs.Io.KnownBytes.{Appends}
 use Rattle.fluent_serve.specs.Text.{Text}
 use Rattle.fluent_serve.specs.Exchange.{Devices, devices_of, AnswersFirst}
 use Rattle.fluent_serve.specs.Texts.{texts}
-use Rattle.ftl_arguments.specs.Meaning.{Asked, Run, run, format, check, lint, lint_input, tidy_files, tidy_input, tidy}
+use Rattle.ftl_arguments.specs.Meaning.{Asked, Run, run, format, check, lint, lint_input, lint_project, status, tidy_files, tidy_input, tidy}
 use Rattle.ftl_command.specs.declared.ended.Ended.{Ended}
 use Rattle.ftl_command.specs.declared.ended.Ended.TheVariants.{Done}
 use Rattle.ftl_command.specs.declared.fault.Fault.{Fault}
@@ -89,6 +89,8 @@ nothing_done contents left held (Some (format f)) = refl
 nothing_done contents left held (Some (check files)) = refl
 nothing_done contents left held (Some (lint l)) = refl
 nothing_done contents left held (Some (lint_input l)) = refl
+nothing_done contents left held (Some (lint_project l)) = refl
+nothing_done contents left held (Some (status s)) = refl
 nothing_done contents left held (Some (tidy_files t)) = refl
 nothing_done contents left held (Some (tidy_input checked)) = refl
 nothing_done contents left held (Some (tidy t)) = refl
@@ -100,6 +102,8 @@ kept_input (Some (format f)) reader = refl
 kept_input (Some (check files)) reader = refl
 kept_input (Some (lint l)) reader = refl
 kept_input (Some (lint_input l)) reader = tt
+kept_input (Some (lint_project l)) reader = refl
+kept_input (Some (status s)) reader = refl
 kept_input (Some (tidy_files t)) reader = refl
 kept_input (Some (tidy_input checked)) reader = tt
 kept_input (Some (tidy t)) reader = refl

@@ -16,13 +16,15 @@ use Rattle.ftl_command.specs.declared.fault.Fault.{Fault}
 use Rattle.ftl_command.specs.declared.fault.FilePlace.{FilePlace}
 use Rattle.ftl_command.specs.declared.fault.Meant.{Meant}
 use Rattle.ftl_command.specs.declared.fault.Meant.TheVariants as may_be
-use Rattle.ftl_command.specs.declared.fault.Fault.TheVariants.{CarriageReturn, NotNormal, NotTree, NotJson, NoMessage, CommandLine, UnknownLocale, FileUnreadable, FileNotUtf8, Input, Output, Memory}
+use Rattle.ftl_command.specs.declared.fault.Fault.TheVariants.{CarriageReturn, NotNormal, NotTree, NotJson, NoMessage, CommandLine, Project, UnknownLocale, FileUnreadable, FileNotUtf8, Input, Output, Memory}
 use Rattle.fluent_tidy.specs.declared.error.CleanError.{CleanError}
 use Rattle.fluent_tidy.specs.declared.error.CleanError.TheVariants as clean
 use Rattle.fluent_tidy.specs.declared.error.NormalizeError.{NormalizeError}
 use Rattle.fluent_tidy.specs.declared.error.NormalizeError.TheVariants as normalize
 use Rattle.fluent_tidy.specs.declared.error.ImportError.{ImportError}
 use Rattle.fluent_tidy.specs.declared.error.ImportError.TheVariants as import
+use Rattle.ftl_project.specs.declared.wrong.ProjectError.{ProjectError}
+use Rattle.ftl_project.specs.declared.wrong.ProjectError.TheVariants as of_project
 use Rattle.fluent_serve.specs.declared.serve.RunError.{RunError}
 use Rattle.fluent_serve.specs.declared.serve.RunError.TheVariants.{Memory as RunMemory, Read as RunRead, Write as RunWrite}
 use Rattle.ftl_command.specs.declared.ended.Ended.{Ended}
@@ -46,6 +48,7 @@ status_of NotTree = 1
 status_of NotJson = 1
 status_of (NoMessage meant) = 1
 status_of (CommandLine advice) = 2
+status_of (Project text) = 2
 status_of (UnknownLocale tag) = 2
 status_of (FileUnreadable file why meant) = 3
 status_of (FileNotUtf8 file row) = 3
@@ -66,6 +69,7 @@ fault_text NotTree = codes "not a tree"
 fault_text NotJson = codes "not JSON"
 fault_text (NoMessage meant) = codes "no such message"
 fault_text (CommandLine advice) = codes "bad command line"
+fault_text (Project text) = string_bytes text
 fault_text (UnknownLocale tag) = tag.now ++ codes ": unknown locale"
 fault_text (FileUnreadable file why meant) = file.now ++ codes ": cannot read"
 fault_text (FileNotUtf8 file row) = file.now ++ codes ": not UTF-8"
@@ -85,6 +89,7 @@ SaysNoUtf8 contents NotTree = Unit {0}
 SaysNoUtf8 contents NotJson = Unit {0}
 SaysNoUtf8 contents (NoMessage meant) = Unit {0}
 SaysNoUtf8 contents (CommandLine advice) = Unit {0}
+SaysNoUtf8 contents (Project text) = Unit {0}
 SaysNoUtf8 contents (UnknownLocale tag) = Unit {0}
 SaysNoUtf8 contents (FileUnreadable file why meant) = Unit {0}
 SaysNoUtf8 contents (FileNotUtf8 file row) = IfSome (contents file.now) (λ held. (IsUtf8 held → ⊥) × (row ≡ bad_row held))
@@ -100,6 +105,7 @@ SaysUnknown locale NotTree = Unit {0}
 SaysUnknown locale NotJson = Unit {0}
 SaysUnknown locale (NoMessage meant) = Unit {0}
 SaysUnknown locale (CommandLine advice) = Unit {0}
+SaysUnknown locale (Project text) = Unit {0}
 SaysUnknown locale (UnknownLocale tag) = (locale ≡ Some tag.now) × (plurals_for tag.now ≡ None)
 SaysUnknown locale (FileUnreadable file why meant) = Unit {0}
 SaysUnknown locale (FileNotUtf8 file row) = Unit {0}
@@ -115,6 +121,7 @@ IsOfLocale NotTree = ⊥
 IsOfLocale NotJson = ⊥
 IsOfLocale (NoMessage meant) = ⊥
 IsOfLocale (CommandLine advice) = ⊥
+IsOfLocale (Project text) = ⊥
 IsOfLocale (UnknownLocale tag) = Unit {0}
 IsOfLocale (FileUnreadable file why meant) = ⊥
 IsOfLocale (FileNotUtf8 file row) = ⊥
@@ -130,6 +137,7 @@ ReachesFile contents files NotTree = Unit {0}
 ReachesFile contents files NotJson = Unit {0}
 ReachesFile contents files (NoMessage meant) = Unit {0}
 ReachesFile contents files (CommandLine advice) = Unit {0}
+ReachesFile contents files (Project text) = Unit {0}
 ReachesFile contents files (UnknownLocale tag) = Unit {0}
 ReachesFile contents files (FileUnreadable file why meant) = Reaches contents files file.now
 ReachesFile contents files (FileNotUtf8 file row) = Reaches contents files file.now
@@ -145,6 +153,7 @@ NamesNoFile NotTree = Unit {0}
 NamesNoFile NotJson = Unit {0}
 NamesNoFile (NoMessage meant) = Unit {0}
 NamesNoFile (CommandLine advice) = Unit {0}
+NamesNoFile (Project text) = Unit {0}
 NamesNoFile (UnknownLocale tag) = Unit {0}
 NamesNoFile (FileUnreadable file why meant) = ⊥
 NamesNoFile (FileNotUtf8 file row) = ⊥
@@ -160,6 +169,7 @@ FailsAsTold before after NotTree = after ≡ before
 FailsAsTold before after NotJson = after ≡ before
 FailsAsTold before after (NoMessage meant) = after ≡ before
 FailsAsTold before after (CommandLine advice) = after ≡ before
+FailsAsTold before after (Project text) = Unit {0}
 FailsAsTold before after (UnknownLocale tag) = after ≡ before
 FailsAsTold before after (FileUnreadable file why meant) = HasFailed before after
 FailsAsTold before after (FileNotUtf8 file row) = after ≡ before
@@ -175,6 +185,7 @@ IsOfFiles NotTree = ⊥
 IsOfFiles NotJson = ⊥
 IsOfFiles (NoMessage meant) = ⊥
 IsOfFiles (CommandLine advice) = ⊥
+IsOfFiles (Project text) = ⊥
 IsOfFiles (UnknownLocale tag) = ⊥
 IsOfFiles (FileUnreadable file why meant) = Unit {0}
 IsOfFiles (FileNotUtf8 file row) = Unit {0}
@@ -190,6 +201,7 @@ IsBeforeInput NotTree = Unit {0}
 IsBeforeInput NotJson = Unit {0}
 IsBeforeInput (NoMessage meant) = Unit {0}
 IsBeforeInput (CommandLine advice) = Unit {0}
+IsBeforeInput (Project text) = Unit {0}
 IsBeforeInput (UnknownLocale tag) = Unit {0}
 IsBeforeInput (FileUnreadable file why meant) = Unit {0}
 IsBeforeInput (FileNotUtf8 file row) = Unit {0}
@@ -237,6 +249,10 @@ IsNormalizeFault normalize.Memory fault = fault ≡ Memory
 IsNormalizeFault normalize.CarriageReturn fault = SaysReturn fault
 IsNormalizeFault normalize.NotNormal fault = SaysNotNormal fault
 
+abbrev pub project_fault : ProjectError → Fault
+project_fault of_project.Memory = Memory
+project_fault (of_project.Wrong text) = Project text
+
 abbrev pub import_fault : ImportError → Fault
 import_fault import.Memory = Memory
 import_fault import.NotNormal = NotNormal None
@@ -252,6 +268,7 @@ IsBadLine NotTree = ⊥
 IsBadLine NotJson = ⊥
 IsBadLine (NoMessage meant) = ⊥
 IsBadLine (CommandLine advice) = Unit {0}
+IsBadLine (Project text) = ⊥
 IsBadLine (UnknownLocale tag) = ⊥
 IsBadLine (FileUnreadable file why meant) = ⊥
 IsBadLine (FileNotUtf8 file row) = ⊥
@@ -272,6 +289,7 @@ IsWithMeant NotTree fault = fault ≡ NotTree
 IsWithMeant NotJson fault = fault ≡ NotJson
 IsWithMeant (NoMessage meant) fault = fault ≡ NoMessage meant
 IsWithMeant (CommandLine advice) fault = fault ≡ CommandLine advice
+IsWithMeant (Project text) fault = fault ≡ Project text
 IsWithMeant (UnknownLocale tag) fault = fault ≡ UnknownLocale tag
 IsWithMeant (FileUnreadable file why meant) fault = SaysUnreadable file why fault
 IsWithMeant (FileNotUtf8 file row) fault = fault ≡ FileNotUtf8 file row
@@ -305,6 +323,7 @@ reason_of NotTree = []
 reason_of NotJson = []
 reason_of (NoMessage meant) = option_map_or string_bytes meant []
 reason_of (CommandLine advice) = option_map_or string_bytes advice []
+reason_of (Project text) = []
 reason_of (UnknownLocale tag) = []
 reason_of (FileUnreadable file why meant) = unreadable_reason file why meant
 reason_of (FileNotUtf8 file row) = said_at file row (codes ": a byte that isn't UTF-8\n")

@@ -4,7 +4,7 @@ use Rattle.std.specs.Io.KnownBytes.{Appends}
 use Rattle.fluent_serve.specs.Text.{Text}
 use denote.Ref.{Bor}
 use Rattle.ftl_arguments.specs.CommandView.{command_view, lint_view, tidy_files_view}
-use Rattle.ftl_arguments.specs.Meaning.{Asked, command_of, run, format, check, lint, lint_input, texts, tidy_files, tidy_input, tidy}
+use Rattle.ftl_arguments.specs.Meaning.{Asked, command_of, run, format, check, lint, lint_input, lint_project, status, texts, tidy_files, tidy_input, tidy}
 use Rattle.ftl_arguments.specs.declared.commands.Command.{Command}
 use Rattle.ftl_arguments.specs.declared.commands.Lint as linted
 use Rattle.ftl_arguments.specs.declared.commands.TidyFiles as code
@@ -17,7 +17,10 @@ use Rattle.ftl_files.specs.States.{state_of}
 use Rattle.ftl_files.specs.declared.folder.Folder.{Ghosts as FolderGhosts}
 use Rattle.ftl_files.specs.Tidying.{AreTidied, AreTidiedFirst, Said}
 use Rattle.ftl_command.specs.Linted.{LintEnds, LintInputEnds, Lints, LintsInput}
+use Rattle.ftl_project.specs.Ends.{IsTable}
+use Rattle.ftl_project.specs.Reports.{IsReport, Written}
 use Rattle.ftl_command.specs.Program.{WritesFront}
+use Rattle.ftl_command.specs.Projects.{ProjectEnds}
 use Rattle.ftl_command.specs.Reported.{EndsBy}
 use Rattle.ftl_command.specs.declared.ended.Ended.{Ended}
 use Rattle.ftl_command.specs.declared.fault.Fault.{Fault}
@@ -38,7 +41,7 @@ pub record InPlaceEnds (t : TidyFiles) (before after : State) (held held_after :
   -- all are, and a front of their names is written
   pub output : IsErrOf result Output → TidiesInPlace t before after (λ said. WritesFront held held_after said.names)
 
--- So it is of whatever the words ask for, and of a catalog that is linted; to tidy standard input no file is read or
+-- So it is of whatever the words ask for, and of a catalog or a project that is linted; to tidy standard input no file is read or
 -- written. What files hold that are only read is what they held, however the command ended.
 abbrev pub FilesEnd : Option Asked → State → State → Devices → Result Ended Fault → Type 0
 FilesEnd None before after d result = after.contents ≡ before.contents
@@ -47,6 +50,8 @@ FilesEnd (Some (format f)) before after d result = after.contents ≡ before.con
 FilesEnd (Some (check files)) before after d result = after.contents ≡ before.contents
 FilesEnd (Some (lint l)) before after d result = LintEnds l before after d.held_before d.held_after result
 FilesEnd (Some (lint_input l)) before after d result = LintInputEnds l before after d result
+FilesEnd (Some (lint_project l)) before after d result = ProjectEnds (IsReport l.format l.notes l.strict) before after d.held_before d.held_after result
+FilesEnd (Some (status s)) before after d result = ProjectEnds IsTable before after d.held_before d.held_after result
 FilesEnd (Some (tidy_files t)) before after d result = InPlaceEnds t before after d.held_before d.held_after result
 FilesEnd (Some (tidy_input checked)) before after d result = after ≡ before
 FilesEnd (Some (tidy t)) before after d result = after.contents ≡ before.contents
@@ -62,6 +67,11 @@ module _ {F W : Type 0} (folders : FolderGhosts F) (before after : F) (sink : Si
   abbrev pub LintEndsOn : linted.Lint → Result Ended Fault → Type 0
   LintEndsOn l result =
       LintEnds (lint_view l) (state_of folders before) (state_of folders after) (sink.contents writer) (sink.contents writer') result
+
+  -- of a project of which this is written
+  abbrev pub ProjectEndOn : (Written → Type 0) → Result Ended Fault → Type 0
+  ProjectEndOn Is result =
+      ProjectEnds Is (state_of folders before) (state_of folders after) (sink.contents writer) (sink.contents writer') result
 
 -- and on a reader
 module _ {F R W : Type 0} (folders : FolderGhosts F) (before after : F) (source : SourceGhosts R) (reader reader' : R) (sink : SinkGhosts W) (writer writer' : W) where

@@ -5,6 +5,7 @@ pub mod Linted
 pub mod InPlace
 pub mod Plurals
 pub mod Program
+pub mod Projects
 pub mod Refusals
 pub mod Shown
 pub mod Terminals

@@ -30,7 +30,7 @@ use Rattle.ftl_command.specs.Shown.{error_line, reply_asked}
 use Rattle.ftl_command.specs.declared.message.Formatted.{Formatted}
 use Rattle.fluent_check.specs.Report.{report_text}
 use Rattle.ftl_arguments.specs.Version.{version_line}
-use Rattle.ftl_arguments.specs.Meaning.{Asked, Run, Format, Tidy, run, format, check, lint, lint_input, tidy_files, tidy_input, tidy, clean, normalize, join, export, import}
+use Rattle.ftl_arguments.specs.Meaning.{Asked, Run, Format, Tidy, run, format, check, lint, lint_input, lint_project, status, tidy_files, tidy_input, tidy, clean, normalize, join, export, import}
 use Rattle.ftl_command.specs.Files.{OnFile, OnTexts}
 use Rattle.ftl_command.specs.Faults.{end_status}
 use Rattle.ftl_files.specs.Tidying.{FileEnd}
@@ -277,6 +277,8 @@ IsDone contents d (Some (check files)) end = OnReport contents files (λ text. W
 -- of these `InPlace.FilesEnd` says what became
 IsDone contents d (Some (lint l)) end = ⊤
 IsDone contents d (Some (lint_input l)) end = ⊤
+IsDone contents d (Some (lint_project l)) end = ⊤
+IsDone contents d (Some (status s)) end = ⊤
 IsDone contents d (Some (tidy_files t)) end = ⊤
 IsDone contents d (Some (tidy_input checked)) end = TidiesInput d checked end
 IsDone contents d (Some (tidy t)) end = (end ≡ Done) × Tidied contents t (Writes d)
@@ -289,6 +291,8 @@ IsDoneAlike contents d (Some (format f)) = ⊤
 IsDoneAlike contents d (Some (check files)) = ⊤
 IsDoneAlike contents d (Some (lint l)) = ⊤
 IsDoneAlike contents d (Some (lint_input l)) = ⊤
+IsDoneAlike contents d (Some (lint_project l)) = ⊤
+IsDoneAlike contents d (Some (status s)) = ⊤
 IsDoneAlike contents d (Some (tidy_files t)) = ⊤
 IsDoneAlike contents d (Some (tidy_input checked)) = ⊤
 IsDoneAlike contents d (Some (tidy t)) = ⊤
@@ -306,6 +310,8 @@ AfterMemory contents d (Some (format f)) = d.held_after ≡ d.held_before
 AfterMemory contents d (Some (check files)) = d.held_after ≡ d.held_before
 AfterMemory contents d (Some (lint l)) = d.held_after ≡ d.held_before
 AfterMemory contents d (Some (lint_input l)) = d.held_after ≡ d.held_before
+AfterMemory contents d (Some (lint_project l)) = d.held_after ≡ d.held_before
+AfterMemory contents d (Some (status s)) = d.held_after ≡ d.held_before
 AfterMemory contents d (Some (tidy_files t)) = d.held_after ≡ d.held_before
 AfterMemory contents d (Some (tidy_input checked)) = d.held_after ≡ d.held_before
 AfterMemory contents d (Some (tidy t)) = d.held_after ≡ d.held_before
@@ -319,6 +325,8 @@ AfterInput contents d Failed (Some (format f)) = ⊥
 AfterInput contents d Failed (Some (check files)) = ⊥
 AfterInput contents d Failed (Some (lint l)) = ⊥
 AfterInput contents d Failed (Some (lint_input l)) = d.held_after ≡ d.held_before
+AfterInput contents d Failed (Some (lint_project l)) = ⊥
+AfterInput contents d Failed (Some (status s)) = ⊥
 AfterInput contents d Failed (Some (tidy_files t)) = ⊥
 AfterInput contents d Failed (Some (tidy_input checked)) = d.held_after ≡ d.held_before
 AfterInput contents d Failed (Some (tidy t)) = ⊥
@@ -331,6 +339,8 @@ AfterOutput contents d (Some (format f)) = OnReply contents f (λ reply. WritesF
 AfterOutput contents d (Some (check files)) = OnReport contents files (WritesFront d.held_before d.held_after)
 AfterOutput contents d (Some (lint l)) = ⊤
 AfterOutput contents d (Some (lint_input l)) = ⊤
+AfterOutput contents d (Some (lint_project l)) = ⊤
+AfterOutput contents d (Some (status s)) = ⊤
 AfterOutput contents d (Some (tidy_files t)) = ⊤
 AfterOutput contents d (Some (tidy_input checked)) = TidiesInputFirst d checked
 AfterOutput contents d (Some (tidy t)) = Tidied contents t (WritesFront d.held_before d.held_after)
@@ -357,6 +367,8 @@ WithoutInput (Some (format f)) Fact = Fact
 WithoutInput (Some (check files)) Fact = Fact
 WithoutInput (Some (lint l)) Fact = Fact
 WithoutInput (Some (lint_input l)) Fact = ⊤
+WithoutInput (Some (lint_project l)) Fact = Fact
+WithoutInput (Some (status s)) Fact = Fact
 WithoutInput (Some (tidy_files t)) Fact = Fact
 WithoutInput (Some (tidy_input checked)) Fact = ⊤
 WithoutInput (Some (tidy t)) Fact = Fact
@@ -369,6 +381,8 @@ ByListing (Some (format f)) Stops Lists = Stops
 ByListing (Some (check files)) Stops Lists = Stops
 ByListing (Some (lint l)) Stops Lists = Lists
 ByListing (Some (lint_input l)) Stops Lists = Lists
+ByListing (Some (lint_project l)) Stops Lists = Lists
+ByListing (Some (status s)) Stops Lists = Lists
 ByListing (Some (tidy_files t)) Stops Lists = Lists
 ByListing (Some (tidy_input checked)) Stops Lists = Stops
 ByListing (Some (tidy t)) Stops Lists = Stops
@@ -393,6 +407,8 @@ files_named (Some (format f)) = f.files
 files_named (Some (check files)) = files
 files_named (Some (lint l)) = []
 files_named (Some (lint_input l)) = []
+files_named (Some (lint_project l)) = []
+files_named (Some (status s)) = []
 files_named (Some (tidy_files t)) = []
 files_named (Some (tidy_input checked)) = []
 files_named (Some (tidy t)) = files_of t
@@ -406,6 +422,8 @@ locale_named (Some (format f)) = f.locale
 locale_named (Some (check files)) = None
 locale_named (Some (lint l)) = l.locale
 locale_named (Some (lint_input l)) = l.locale
+locale_named (Some (lint_project l)) = None
+locale_named (Some (status s)) = None
 locale_named (Some (tidy_files t)) = None
 locale_named (Some (tidy_input checked)) = None
 locale_named (Some (tidy t)) = None
@@ -419,6 +437,8 @@ IsRefused (Some (format f)) = plurals_asked f.locale ≡ None
 IsRefused (Some (check files)) = ⊥
 IsRefused (Some (lint l)) = ⊤
 IsRefused (Some (lint_input l)) = ⊤
+IsRefused (Some (lint_project l)) = ⊤
+IsRefused (Some (status s)) = ⊤
 IsRefused (Some (tidy_files t)) = ⊤
 IsRefused (Some (tidy_input checked)) = ⊥
 IsRefused (Some (tidy t)) = ⊥

@@ -11,7 +11,7 @@ use Rattle.fluent_tidy_laws.specs.Normal.{HasNoNormalText}
 use Rattle.fluent_json.specs.Json.{HasNoTree}
 use Rattle.fluent_tidy.specs.Sources.{holds_return}
 use Rattle.fluent_tidy.specs.Trees.{IsNotImported}
-use Rattle.ftl_arguments.specs.Meaning.{AskForHelpAlone, AskForText, AskForVersionAlone, Asked, Format, Tidy, command_of, run, format, check, lint, lint_input, tidy_files, tidy_input, tidy, clean, normalize, join, export, import}
+use Rattle.ftl_arguments.specs.Meaning.{AskForHelpAlone, AskForText, AskForVersionAlone, Asked, Format, Tidy, command_of, run, format, check, lint, lint_input, lint_project, status, tidy_files, tidy_input, tidy, clean, normalize, join, export, import}
 use Rattle.ftl_command.specs.Files.{OnFile, OnTexts}
 use Rattle.ftl_command.specs.Faults.{IsBadLine, IsBeforeInput, IsOfLocale, NamesNoFile, SaysOfFiles, SaysUnknown}
 use Rattle.ftl_command.specs.Program.{ByListing, OnFound, OnValue, ShowsVersionOn, UnlessListed, files_named, locale_named}
@@ -20,7 +20,7 @@ use Rattle.ftl_files.specs.Files.{State}
 use Rattle.ftl_files.specs.States.{state_of}
 use Rattle.ftl_files.specs.declared.folder.Folder.{Ghosts as FolderGhosts}
 use Rattle.ftl_command.specs.declared.fault.Fault.{Fault}
-use Rattle.ftl_command.specs.declared.fault.Fault.TheVariants.{CarriageReturn, NotNormal, NotTree, NotJson, NoMessage, CommandLine, UnknownLocale, FileUnreadable, FileNotUtf8, Input, Output, Memory}
+use Rattle.ftl_command.specs.declared.fault.Fault.TheVariants.{CarriageReturn, NotNormal, NotTree, NotJson, NoMessage, CommandLine, Project, UnknownLocale, FileUnreadable, FileNotUtf8, Input, Output, Memory}
 
 -- A source to be tidied holds a carriage return. A file with a JSON tree is no source.
 abbrev pub HoldReturn : (Text → Option Text) → Tidy → Type 0
@@ -62,6 +62,7 @@ IsRightOf contents t NotTree = HoldNoTree contents t
 IsRightOf contents t NotJson = HoldNoJson contents t
 IsRightOf contents t (NoMessage meant) = ⊥
 IsRightOf contents t (CommandLine advice) = Unit {0}
+IsRightOf contents t (Project text) = ⊥
 IsRightOf contents t (UnknownLocale tag) = Unit {0}
 IsRightOf contents t (FileUnreadable file why meant) = Unit {0}
 IsRightOf contents t (FileNotUtf8 file row) = Unit {0}
@@ -77,12 +78,29 @@ RefusesNothing NotTree = ⊥
 RefusesNothing NotJson = ⊥
 RefusesNothing (NoMessage meant) = ⊥
 RefusesNothing (CommandLine advice) = Unit {0}
+RefusesNothing (Project text) = ⊥
 RefusesNothing (UnknownLocale tag) = Unit {0}
 RefusesNothing (FileUnreadable file why meant) = Unit {0}
 RefusesNothing (FileNotUtf8 file row) = Unit {0}
 RefusesNothing Input = Unit {0}
 RefusesNothing Output = Unit {0}
 RefusesNothing Memory = Unit {0}
+
+-- A fault refuses no message and no source, but maybe a project.
+abbrev pub RefusesProject : Fault → Type 0
+RefusesProject (CarriageReturn place) = ⊥
+RefusesProject (NotNormal report) = ⊥
+RefusesProject NotTree = ⊥
+RefusesProject NotJson = ⊥
+RefusesProject (NoMessage meant) = ⊥
+RefusesProject (CommandLine advice) = Unit {0}
+RefusesProject (Project text) = Unit {0}
+RefusesProject (UnknownLocale tag) = Unit {0}
+RefusesProject (FileUnreadable file why meant) = Unit {0}
+RefusesProject (FileNotUtf8 file row) = Unit {0}
+RefusesProject Input = Unit {0}
+RefusesProject Output = Unit {0}
+RefusesProject Memory = Unit {0}
 
 -- if the fault says that there is no such message, the files' texts have none
 abbrev pub SaysNoMessage : (Text → Option Text) → Format → Fault → Type 0
@@ -92,6 +110,7 @@ SaysNoMessage contents f NotTree = ⊥
 SaysNoMessage contents f NotJson = ⊥
 SaysNoMessage contents f (NoMessage meant) = OnFound contents f (λ found. found ≡ None)
 SaysNoMessage contents f (CommandLine advice) = Unit {0}
+SaysNoMessage contents f (Project text) = ⊥
 SaysNoMessage contents f (UnknownLocale tag) = Unit {0}
 SaysNoMessage contents f (FileUnreadable file why meant) = Unit {0}
 SaysNoMessage contents f (FileNotUtf8 file row) = Unit {0}
@@ -99,7 +118,7 @@ SaysNoMessage contents f Input = Unit {0}
 SaysNoMessage contents f Output = Unit {0}
 SaysNoMessage contents f Memory = Unit {0}
 
--- The same for whatever the words ask for: only what is to be tidied can be refused, and only a message can be missing.
+-- The same for whatever the words ask for: only what is to be tidied and a project can be refused, and only a message can be missing.
 abbrev pub IsRight : (Text → Option Text) → Option Asked → Fault → Type 0
 IsRight contents None fault = RefusesNothing fault
 IsRight contents (Some (run r)) fault = RefusesNothing fault
@@ -107,6 +126,8 @@ IsRight contents (Some (format f)) fault = SaysNoMessage contents f fault
 IsRight contents (Some (check files)) fault = RefusesNothing fault
 IsRight contents (Some (lint l)) fault = RefusesNothing fault
 IsRight contents (Some (lint_input l)) fault = RefusesNothing fault
+IsRight contents (Some (lint_project l)) fault = RefusesProject fault
+IsRight contents (Some (status s)) fault = RefusesProject fault
 IsRight contents (Some (tidy_files t)) fault = RefusesNothing fault
 IsRight contents (Some (tidy_input checked)) fault = RefusesNothing fault
 IsRight contents (Some (tidy t)) fault = IsRightOf contents t fault
@@ -153,6 +174,13 @@ pub record IsDeviceFault {R W : Type 0} (source : SourceGhosts R) (reader reader
   -- the device that is at fault failed, or the input came to no end
   pub given_up : fault ≡ Input → GivesUp source reader reader' 4294967296
   pub failed : fault ≡ Output → HasFailed (sink.failures writer) (sink.failures writer')
+
+-- a project is wrong, memory ran out, or the output failed
+abbrev pub IsOfProject : Fault → Type 0
+IsOfProject (Project text) = Unit {0}
+IsOfProject Output = Unit {0}
+IsOfProject Memory = Unit {0}
+IsOfProject fault = ⊥
 
 -- memory ran out, or the input or the output failed
 abbrev pub IsOfStreams : Fault → Type 0

@@ -8,7 +8,7 @@ use Rattle.ftl_command.specs.declared.terminals.Terminals.{Terminals}
 abbrev pub are_for_people : List Text → Bool
 are_for_people [] = false
 are_for_people (word ∷ words) =
-    bytes_eq word (codes "lint") || (bytes_eq word (codes "format") || bytes_eq word (codes "tidy"))
+    bytes_eq word (codes "lint") || (bytes_eq word (codes "status") || (bytes_eq word (codes "format") || bytes_eq word (codes "tidy")))
 
 -- more is said of a fault than its line: by such a command, or on a terminal
 abbrev pub explains : Terminals → List Text → Bool

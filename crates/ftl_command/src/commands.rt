@@ -16,6 +16,7 @@ use crate::in_place::tidy_in_place;
 use crate::input::tidy_input;
 use crate::linting::{lint_files, lint_input};
 use crate::output::write_asked;
+use crate::projects::{write_project_report, write_status};
 use crate::running::{RunOptions, run_files};
 use crate::telling::{shown_reason, tell_errors_on, tell_on};
 use crate::terminals::Terminals;
@@ -87,7 +88,7 @@ pub fn program_shown<R: Files, I: io::Read + Drop, O: io::Write + Drop, F: io::W
 /// Whether the command lists files, and goes on after one that it can't read.
 fn are_files_listed(words: &[&str]) -> bool {
     match words {
-        [word, ..] => *word == "lint" || *word == "tidy",
+        [word, ..] => *word == "lint" || *word == "status" || *word == "tidy",
         [] => false,
     }
 }
@@ -196,6 +197,8 @@ fn do_command<'words, F: Folder, I: Source, O: Sink>(
         Command::Check { files } => check_files(folder, alloc, files, writer),
         Command::Lint(lint) => lint_files(folder, alloc, lint, writer),
         Command::LintInput(lint) => lint_input(folder, alloc, lint, reader, writer),
+        Command::LintProject(lint) => write_project_report(folder, alloc, lint, writer),
+        Command::Status(status) => write_status(folder, alloc, status, writer),
         Command::TidyFiles(tidy) => tidy_in_place(folder, alloc, tidy, writer),
         Command::TidyInput { check } => tidy_input(alloc, *check, reader, writer),
         Command::Tidy(tidy) => write_tidied(folder, alloc, tidy, writer),

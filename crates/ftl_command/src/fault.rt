@@ -1,11 +1,12 @@
 //! What ends the program before the end of its input.
 ghost use Rattle.std.specs.Prelude.{◌≡◌, ◌++◌, IfOk, Some, string_bytes};
-ghost use Rattle.ftl_command.specs.Faults.{status_of, fault_text, run_fault, import_fault};
+ghost use Rattle.ftl_command.specs.Faults.{status_of, fault_text, run_fault, import_fault, project_fault};
 ghost use Rattle.ftl_command.specs.Faults.{reason_of, return_reason, unreadable_reason};
 ghost use Rattle.ftl_command.specs.declared.fault.Fault.TheVariants.{Memory};
 
 use fluent_serve::serve::RunError;
 use fluent_tidy::ImportError;
+use ftl_project::ProjectError;
 use std::alloc::{AllocError, AllocFailed, Global};
 use std::fmt;
 use thiserror::Error;
@@ -33,6 +34,10 @@ pub enum Fault<'words> {
     /// The command-line arguments aren't a command, as this line says.
     CommandLine {
         advice: Option<String>,
+    },
+    /// Something is wrong with a project, as this says.
+    Project {
+        text: String,
     },
     /// The locale is no tag of a language.
     UnknownLocale {
@@ -89,7 +94,7 @@ impl<'words> Fault<'words> {
             | Fault::NotTree
             | Fault::NotJson
             | Fault::NoMessage { .. } => 1,
-            Fault::CommandLine { .. } | Fault::UnknownLocale { .. } => 2,
+            Fault::CommandLine { .. } | Fault::Project { .. } | Fault::UnknownLocale { .. } => 2,
             Fault::FileUnreadable { .. }
             | Fault::FileNotUtf8 { .. }
             | Fault::Input
@@ -98,9 +103,9 @@ impl<'words> Fault<'words> {
         }
     }
 
-    /// The name of the locale or the file that is at fault, or otherwise an empty text; and what
-    /// follows it.
-    pub(crate) fn parts(&self) -> (&'words str, &'static str)
+    /// The name of the locale or the file that is at fault, what is wrong with a project, or
+    /// otherwise an empty text; and what follows it.
+    pub(crate) fn parts(&self) -> (&str, &'static str)
         ensures { result.0.now ++ result.1.now ≡ fault_text self.now }
     {
         match self {
@@ -110,6 +115,7 @@ impl<'words> Fault<'words> {
             Fault::NotJson => ("", "not JSON"),
             Fault::NoMessage { .. } => ("", "no such message"),
             Fault::CommandLine { .. } => ("", "bad command line"),
+            Fault::Project { text } => (text.as_str(), ""),
             Fault::UnknownLocale { tag } => (*tag, ": unknown locale"),
             Fault::FileUnreadable { file, .. } => (*file, ": cannot read"),
             Fault::FileNotUtf8 { file, .. } => (*file, ": not UTF-8"),
@@ -210,6 +216,17 @@ impl From<RunError> for Fault<'_> {
             RunError::Memory => Fault::Memory,
             RunError::Read => Fault::Input,
             RunError::Write => Fault::Output,
+        }
+    }
+}
+
+impl From<ProjectError> for Fault<'_> {
+    ghost from_gives = { λ error fault. fault ≡ project_fault error };
+
+    fn from(error: ProjectError) -> Self {
+        match error {
+            ProjectError::Memory => Fault::Memory,
+            ProjectError::Wrong { text } => Fault::Project { text },
         }
     }
 }

@@ -25,6 +25,7 @@ mod message;
 mod message_errors;
 pub mod output;
 pub mod plurals;
+pub mod projects;
 pub mod running;
 pub mod telling;
 pub mod terminals;
@@ -32,8 +33,8 @@ pub mod tidying;
 
 pub use commands::{program, program_shown};
 pub use ftl_arguments::{
-    Command, CommandError, Format, Invocation, Lint, ReportFormat, Tidy, TidyFiles, VERSION,
-    command,
+    Command, CommandError, Format, Invocation, Lint, ProjectLint, ProjectWords, ReportFormat,
+    Status, TableFormat, Tidy, TidyFiles, VERSION, command,
 };
 pub use message::{Formatted, format_message};
 pub use terminals::{Terminals, are_for_people};

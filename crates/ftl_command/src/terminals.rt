@@ -26,7 +26,9 @@ pub fn are_for_people(words: &[&str]) -> bool
     ensures { result ≡ are_for_people (texts words.now) }
 {
     match words {
-        [word, ..] => *word == "lint" || *word == "format" || *word == "tidy",
+        [word, ..] => {
+            *word == "lint" || *word == "status" || *word == "format" || *word == "tidy"
+        }
         [] => false,
     }
 }

@@ -3,7 +3,7 @@
 //! Contracts see what the files of a `Folder` hold and which files lie below a name, if that is
 //! known, and how many of its calls have failed. `FromFiles` makes one of the system's files, of
 //! which nothing is known.
-ghost use Rattle.std.specs.Prelude.{◌≡◌, ◌⊎◌, ℕ, List, [], Option, IfOk, IfSome, IsSorted, OnOk, OnErr, string_cmp};
+ghost use Rattle.std.specs.Prelude.{◌≡◌, ◌⊎◌, ℕ, List, [], Option, IfOk, IfSome, IsSorted, OnOk, OnErr, string_cmp, true};
 ghost use Rattle.ftl_files.specs.Files.{IsReplaced, StandFor, failures_after_file, failures_after_replace};
 ghost use Rattle.ftl_files.specs.Listing.{listed_names};
 
@@ -109,6 +109,16 @@ pub trait Folder {
         ensures kept { contents self.new ≡ contents self.old }
         ensures same_sources { sources self.new ≡ sources self.old }
         ensures failed { failures self.new ≡ failures_after_file (failures self.old) result };
+
+    /// Whether there is a file of a name, or a link to one.
+    fn has_file(&self, name: &str) -> bool
+        ensures { IfSome (contents self.now name.now) (λ _. result ≡ true) };
+
+    /// The path of the current folder from the root, without links, if it is known.
+    ///
+    /// # Errors
+    /// [`FileError::Memory`] if memory runs out.
+    fn here(&self, alloc: Global) -> Result<Option<String>, FileError>;
 
     /// Replaces what a file holds by these bytes, at once: at any time the file holds what it did
     /// or the bytes, whole. No other file changes, though a replacement that is cut off may leave

@@ -80,7 +80,11 @@ pub(crate) fn list_paths<F: Folder>(
 
 /// What a path stands for. One that can't be listed itself is listed as a folder below that can't
 /// be.
-fn list_path<F: Folder>(folder: &mut F, alloc: Global, path: &str) -> Result<Listing, AllocError>
+pub(crate) fn list_path<F: Folder>(
+    folder: &mut F,
+    alloc: Global,
+    path: &str,
+) -> Result<Listing, AllocError>
     ensures listed { IfOk result (IsListedOn F.Folder path.now folder.old folder.new) }
     ensures kept { F.contents folder.new ≡ F.contents folder.old }
 {

@@ -181,7 +181,7 @@ fn is_text_file(kind: FileType) -> bool
 }
 
 /// Whether the name of a file ends as those of sources do.
-fn is_source_name(path: &str) -> bool
+pub(crate) fn is_source_name(path: &str) -> bool
     ensures { result ≡ is_source_name path.now }
 {
     path.as_bytes().ends_with(b".ftl")

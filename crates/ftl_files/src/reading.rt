@@ -134,13 +134,17 @@ pub fn read_sources<F: Folder>(
 {
     let listed = list_paths(folder, alloc, paths)?;
     let names = each_once(alloc, &listed.names)?;
-    let mut read = read_all(folder, alloc, &names)?;
+    let mut read = read_each(folder, alloc, &names)?;
     read.add_listed(&listed)?;
     Ok(read)
 }
 
-/// Reads files, one after the other.
-fn read_all<F: Folder>(
+/// Reads files, one after the other. Of a file that can't be read, or whose source nests too deep
+/// for that, a line says so. The files stay as they are.
+///
+/// # Errors
+/// [`AllocError`] if memory runs out; nothing is kept.
+pub fn read_each<F: Folder>(
     folder: &mut F,
     alloc: Global,
     names: &[&str],

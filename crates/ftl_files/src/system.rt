@@ -9,7 +9,7 @@ use crate::listing::list_sources;
 use crate::replacing::{NotReplaced, replace_file};
 use crate::rows::bad_row;
 use std::alloc::Global;
-use std::fs::File;
+use std::fs::{File, metadata};
 use std::io;
 use std::io::{ErrorKind, Read};
 use std::rt::Files;
@@ -138,6 +138,18 @@ impl<R: Files> Folder for FromFiles<'_, R> {
                 self.unlisted = self.why;
                 Err(FileError::Unreadable)
             }
+        }
+    }
+
+    fn has_file(&self, name: &str) -> bool {
+        metadata(self.files, name).is_ok_and(|found| found.is_file())
+    }
+
+    fn here(&self, alloc: Global) -> Result<Option<String>, FileError> {
+        match self.files.canonicalize(alloc, ".") {
+            Ok(path) => Ok(Some(path.into_string())),
+            Err(error) if is_refused(&error) => Err(FileError::Memory),
+            Err(_) => Ok(None),
         }
     }
 

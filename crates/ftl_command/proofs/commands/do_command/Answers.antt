@@ -1,7 +1,7 @@
 use Rattle.std.proofs.lemmas.Result.{IfErr-weaker}
 use Rattle.std.proofs.Common.{ap}
 use Rattle.fluent_serve.proofs.Outcomes.{on_ok_always}
-use Rattle.ftl_command.proofs.Refusals.{in_place_devices, input_devices, lint_devices, lint_input_devices, text_devices}
+use Rattle.ftl_command.proofs.Refusals.{in_place_devices, input_devices, lint_devices, lint_input_devices, project_lint_devices, status_devices, text_devices}
 use Rattle.ftl_command.proofs.RunLemmas.{done_by, if_ok_any, first_by, kept_by, never_by}
 use Rattle.ftl_command.specs.declared.fault.Fault.TheVariants.{Input, Memory}
 use Rattle.ftl_command.proofs.commands.do_command.Goals as goal
@@ -153,3 +153,39 @@ pub returns-in-TidyInput-clause-devices : goal.returns-in-TidyInput-clause-devic
 returns-in-TidyInput-clause-devices g c =
     rw c.in-TidyInput.is (input_devices g.F.Folder c.args.folder.now _ g.I.Source g.O.Sink c.args.reader.now c.tidy_input.new.reader c.args.writer.now c.tidy_input.new.writer
     c.tidy_input.result c.tidy_input.ensures.reads c.tidy_input.ensures.writes c.tidy_input.ensures.fault c.tidy_input.ensures.stops)
+
+pub returns-in-LintProject-clause-ended : goal.returns-in-LintProject-clause-ended
+returns-in-LintProject-clause-ended g c =
+    rw c.in-LintProject.is (record {
+      done = if_ok_any c.write_project_report.result;
+      tidied = on_ok_always c.write_project_report.result tt;
+      memory = λ memory. ap g.O.Sink.contents (kept_by c.write_project_report.result Memory memory (λ same. absurd cc) (IfErr-weaker c.write_project_report.result _ _ (λ fault f. f.unwritten) c.write_project_report.ensures.stops));
+      input = λ input. never_by c.write_project_report.result Input input (IfErr-weaker c.write_project_report.result _ _ (λ fault f. f.not_input) c.write_project_report.ensures.stops);
+      output = λ output. tt;
+    })
+
+pub returns-in-LintProject-clause-devices : goal.returns-in-LintProject-clause-devices
+returns-in-LintProject-clause-devices g c =
+    rw c.in-LintProject.is (project_lint_devices g.F.Folder c.args.folder.now c.write_project_report.new.folder g.I.Source g.O.Sink c.args.reader.now c.args.writer.now c.write_project_report.new.writer
+    c.write_project_report.result _ c.write_project_report.ensures.writes c.write_project_report.ensures.fault c.write_project_report.ensures.stops)
+
+pub returns-in-LintProject-clause-files : goal.returns-in-LintProject-clause-files
+returns-in-LintProject-clause-files g c = rw c.in-LintProject.is c.write_project_report.ensures.ended
+
+pub returns-in-Status-clause-ended : goal.returns-in-Status-clause-ended
+returns-in-Status-clause-ended g c =
+    rw c.in-Status.is (record {
+      done = if_ok_any c.write_status.result;
+      tidied = on_ok_always c.write_status.result tt;
+      memory = λ memory. ap g.O.Sink.contents (kept_by c.write_status.result Memory memory (λ same. absurd cc) (IfErr-weaker c.write_status.result _ _ (λ fault f. f.unwritten) c.write_status.ensures.stops));
+      input = λ input. never_by c.write_status.result Input input (IfErr-weaker c.write_status.result _ _ (λ fault f. f.not_input) c.write_status.ensures.stops);
+      output = λ output. tt;
+    })
+
+pub returns-in-Status-clause-devices : goal.returns-in-Status-clause-devices
+returns-in-Status-clause-devices g c =
+    rw c.in-Status.is (status_devices g.F.Folder c.args.folder.now c.write_status.new.folder g.I.Source g.O.Sink c.args.reader.now c.args.writer.now c.write_status.new.writer
+    c.write_status.result _ c.write_status.ensures.writes c.write_status.ensures.fault c.write_status.ensures.stops)
+
+pub returns-in-Status-clause-files : goal.returns-in-Status-clause-files
+returns-in-Status-clause-files g c = rw c.in-Status.is c.write_status.ensures.ended

@@ -81,14 +81,15 @@ returns-in-Ok-clause-status g c =
 
 pub returns-in-Err-clause-status : goal.returns-in-Err-clause-status
 returns-in-Err-clause-status g c =
+    let contents = g.F.Folder.contents c.args.folder.now in
     let words = texts c.args.words.now in
     let fault = c.in-Err.ensures.devices.fault in
     let help = c.in-Err.ensures.help in
     let is = c.tell_on.ensures.status in
     record {
       among = rw is (status_of-among c.in-Err.fault);
-      refused = λ two. refused_by (command_of c.args.screens.colours words) c.in-Err.fault fault.refused fault.unknown (sym is ∙ two);
-      not_help = λ two. not_alone_by c.args.screens.colours words DisplayHelp c.in-Err.fault help.not_help fault.unknown (sym is ∙ two);
-      not_version = λ two. not_alone_by c.args.screens.colours words DisplayVersion c.in-Err.fault help.not_version fault.unknown (sym is ∙ two);
+      refused = λ two. refused_by contents (command_of c.args.screens.colours words) c.in-Err.fault fault.refused fault.unknown fault.right (sym is ∙ two);
+      not_help = λ two. not_alone_by contents c.args.screens.colours words DisplayHelp c.in-Err.fault help.not_help fault.unknown fault.right (sym is ∙ two);
+      not_version = λ two. not_alone_by contents c.args.screens.colours words DisplayVersion c.in-Err.fault help.not_version fault.unknown fault.right (sym is ∙ two);
       served = λ zero. absurd (never_zero c.in-Err.fault (sym is ∙ zero));
     }

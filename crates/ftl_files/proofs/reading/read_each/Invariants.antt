@@ -3,7 +3,7 @@ use Rattle.fluent_serve.specs.Texts.{texts}
 use Rattle.ftl_files.specs.States.{state_of}
 use Rattle.ftl_files.specs.TidyView.{read_view}
 use Rattle.ftl_files.specs.Reading.{ReadsThrough}
-use Rattle.ftl_files.proofs.reading.read_all.Given as goal
+use Rattle.ftl_files.proofs.reading.read_each.Given as goal
 
 -- the files so far are read, and what they hold is as it was
 abbrev pub invariant-loop-name : goal.invariant-loop-name

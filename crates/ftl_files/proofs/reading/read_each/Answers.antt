@@ -3,7 +3,7 @@ use Rattle.ftl_files.specs.States.{state_of}
 use Rattle.ftl_files.specs.Reading.{none_read}
 use Rattle.ftl_files.specs.TidyView.{read_view}
 use Rattle.ftl_files.proofs.ReadLemmas.{read_next}
-use Rattle.ftl_files.proofs.reading.read_all.Goals as goal
+use Rattle.ftl_files.proofs.reading.read_each.Goals as goal
 
 pub loop-name-init : goal.loop-name-init
 loop-name-init g c = record { read = rw c.new-read.ensures none_read; kept = refl }

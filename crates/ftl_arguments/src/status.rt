@@ -1,0 +1,84 @@
+//! The command `status`, and the options of projects, as `clap` knows them.
+ghost use Rattle.std.specs.Prelude.{◌≡◌, IfOk, codes};
+ghost use Rattle.clap.specs.Words.{app_of, with_subcommand};
+ghost use Rattle.ftl_arguments.specs.Commands.{IsLocal, IsShaped, chosen_rules, default_rule, each_rule, option_rule, project_paths_rule, shaped, status_shape};
+
+use crate::program::{each, flag, option, option_or};
+use clap::{Arg, Command};
+use std::alloc::{AllocError, Global};
+
+/// What follows the options in the help of `status`.
+const EXAMPLE: &str =
+    "Without PATH, the project is that of the first l10n.toml here or in a folder above.
+
+Example: ftl status --format markdown";
+
+/// The program with the command `status`, too.
+pub(crate) fn with_status<'a>(
+    alloc: Global,
+    program: Command<'a>,
+) -> Result<Command<'a>, AllocError>
+    ensures { IfOk result (λ more. app_of more ≡ with_subcommand (app_of program.entry) status_shape) }
+{
+    program.subcommand(status(alloc)?)
+}
+
+/// The command `status`.
+fn status<'a>(alloc: Global) -> Result<Command<'a>, AllocError>
+    ensures { IfOk result (IsShaped status_shape) }
+{
+    choosing(alloc)?
+        .after_help(EXAMPLE)
+        .arg(flag(alloc, "files").help("Count each file, too"))?
+        .arg(table_format(alloc))?
+        .arg(project_paths(alloc))
+}
+
+/// The command `status` with the options alone that say which project and languages are meant.
+fn choosing<'a>(alloc: Global) -> Result<Command<'a>, AllocError>
+    ensures { IfOk result (IsShaped (shaped (codes "status") chosen_rules)) }
+{
+    let reference = each(alloc, "reference", "PATTERN").help(
+        "With patterns in the place of l10n.toml, that of the source language, as 'l10n/en/**'",
+    );
+    let locales = option(alloc, "locale", "TAG").help("Only these languages; several as a,b");
+    Command::new(alloc, "status")
+        .about("Count what is translated, in each language of a project")
+        .arg(reference)?
+        .arg(locales)?
+        .arg(variable(alloc))
+}
+
+/// How `status` writes its table.
+fn table_format<'a>(alloc: Global) -> Arg<'a>
+    ensures { IsLocal (default_rule (codes "format") (codes "text")) result }
+{
+    option_or(alloc, "format", "FORMAT", "text").help("Write the table as text, json or markdown")
+}
+
+/// The files of a project that `lint` reports alone.
+pub(crate) fn only<'a>(alloc: Global) -> Arg<'a>
+    ensures { IsLocal (each_rule (codes "only")) result }
+{
+    each(alloc, "only", "PATH").help(
+        "In a project, report on this file or folder alone (repeatable)",
+    )
+}
+
+/// A variable of the patterns of a project.
+pub(crate) fn variable<'a>(alloc: Global) -> Arg<'a>
+    ensures { IsLocal (each_rule (codes "define")) result }
+{
+    each(alloc, "define", "NAME=VALUE").help(
+        "In a project, give a variable of its patterns this value (repeatable)",
+    )
+}
+
+/// The file of a project, or patterns.
+pub(crate) fn project_paths<'a>(alloc: Global) -> Arg<'a>
+    ensures { IsLocal project_paths_rule result }
+{
+    Arg::new(alloc, "PATH").num_args(1..).help(
+        "The l10n.toml of the project, or patterns, as 'l10n/{locale}/**'",
+    )
+}

@@ -1,0 +1,35 @@
+-- What becomes of a project that is linted or counted.
+use Rattle.std.specs.Prelude.{◌≡◌, false, string_bytes}
+use Rattle.lint_report.specs.Formats.{format_view}
+use Rattle.ftl_arguments.specs.declared.commands.ProjectLint.{ProjectLint}
+use Rattle.ftl_files.specs.States.{state_of}
+use Rattle.ftl_files.specs.declared.folder.Folder.{Ghosts as FolderGhosts}
+use Rattle.ftl_project.specs.Reading.{AreReadLater, Unread}
+use Rattle.ftl_project.specs.Reports.{IsReport, Written}
+use Rattle.ftl_project.specs.declared.work.ProjectEnd.{ProjectEnd}
+use Rattle.ftl_project.specs.declared.work.Work.{Work}
+use Rattle.ftl_project.specs.declared.work.Work.TheVariants as work
+
+-- the report that is asked for
+abbrev pub IsReportFor : ProjectLint → Written → Type 0
+IsReportFor l w = IsReport (format_view l.format) l.notes l.strict w
+
+-- a table fails no project
+abbrev pub IsTable : Written → Type 0
+IsTable w = w.has_failed ≡ false
+
+-- what is asked for
+abbrev pub IsAsked : Work → Written → Type 0
+IsAsked (work.Lint l) w = IsReportFor l.now w
+IsAsked (work.Status s) w = IsTable w
+
+abbrev pub written_in : ProjectEnd → Written
+written_in e = record { text = string_bytes e.text; has_failed = e.has_failed }
+
+abbrev pub unread_in : ProjectEnd → Unread
+unread_in e = record { errors = string_bytes e.errors; reported = e.reported }
+
+-- what is said of the files of a project is what came of reading them
+module _ {F : Type 0} (folders : FolderGhosts F) where
+  abbrev pub EndsRead : F → F → ProjectEnd → Type 0
+  EndsRead before after end = AreReadLater (state_of folders before) (state_of folders after) (unread_in end)

@@ -1,0 +1,48 @@
+//! The files of a project's reference.
+
+use crate::sources::Sources;
+use fluent_project::relative_path;
+use lint_finding::File;
+use std::alloc::{AllocError, Global};
+
+/// A file of the reference.
+#[derive(Drop)]
+pub struct ReferenceFile<'s> {
+    /// Its path from the root, or from the current folder if that isn't known.
+    pub path: &'s str,
+    /// Its name, as it is reported.
+    pub name: String,
+    /// The file, if it was read.
+    pub file: Option<File<'s>>,
+}
+
+/// The files of the reference of these paths.
+///
+/// # Errors
+/// [`AllocError`] if memory runs out; nothing is kept.
+pub fn reference_files<'s>(
+    alloc: Global,
+    here: &str,
+    references: &[&'s str],
+    files: &[&str],
+    sources: &'s Sources,
+) -> Result<Vec<ReferenceFile<'s>>, AllocError> {
+    let mut all = Vec::with_capacity(alloc, references.len())?;
+    for path in references {
+        let file = match index_of(files, path) {
+            Some(index) => sources.file(index),
+            None => None,
+        };
+        all.push(ReferenceFile {
+            path: *path,
+            name: relative_path(alloc, here, path)?,
+            file,
+        })?;
+    }
+    Ok(all)
+}
+
+/// Where a path is among these, which are in the order of their bytes.
+pub(crate) fn index_of(paths: &[&str], path: &str) -> Option<usize> {
+    paths.binary_search_by(|other| (**other).cmp(path)).ok()
+}

@@ -1,0 +1,258 @@
+//! The report on a project.
+ghost use Rattle.std.specs.Prelude.{◌≡◌, IfOk, OnOk, string_bytes};
+ghost use Rattle.std.specs.List.{flat_map, list_any};
+ghost use Rattle.lint_finding.specs.View.{findings_view};
+ghost use Rattle.lint_report.specs.Changes.{Appends};
+ghost use Rattle.ftl_project.specs.Reports.{IsReportBy, all_found, group_fails, group_lines, group_name, group_view, groups_view, has_failure, text_by, text_of_group};
+
+use crate::json::push_json_findings;
+use crate::language::{Linted, LintedFile};
+use crate::project::Project;
+use crate::reference::ReferenceFile;
+use fluent_lint::{Output, keep_reported, push_totals};
+use lint_finding::FileFindings;
+use lint_report::{Format, has_failed, push_masked, report};
+use std::alloc::{AllocError, Global};
+
+/// What is reported of the reference or of a language.
+#[derive(Drop)]
+pub struct Group<'s> {
+    /// The tag of the language, if it is one.
+    pub locale: Option<&'s str>,
+    /// The findings that are reported.
+    pub found: Vec<FileFindings<'s>>,
+    /// How many files there are.
+    pub files: usize,
+}
+
+/// The report on a project, and whether a language fails.
+#[derive(Drop)]
+pub struct ProjectReport {
+    pub text: String,
+    pub has_failed: bool,
+}
+
+/// The report on these groups. Those of languages fail if they have an error, or with
+/// `output.strict` a warning.
+///
+/// # Errors
+/// [`AllocError`] if memory runs out; nothing is kept.
+pub fn report_groups(
+    alloc: Global,
+    output: Output<'_>,
+    groups: Vec<Group<'_>>,
+) -> Result<ProjectReport, AllocError>
+    ensures { IfOk result (IsReportBy output.entry) }
+{
+    let mut groups = groups;
+    for group in &mut groups {
+        keep_reported(&mut group.found, output.ignored);
+    }
+    report_kept(alloc, output, groups)
+}
+
+/// The report on groups, of which all findings are reported.
+fn report_kept(
+    alloc: Global,
+    output: Output<'_>,
+    groups: Vec<Group<'_>>,
+) -> Result<ProjectReport, AllocError>
+    ensures text { IfOk result (λ made. string_bytes made.text
+        ≡ text_by output.entry (groups_view groups.entry.items)) }
+    ensures failed { IfOk result (λ made. made.has_failed
+        ≡ has_failure output.entry (groups_view groups.entry.items)) }
+{
+    let has_failed = has_language_failed(output.strict, &groups);
+    let text = text_of(alloc, output, groups)?;
+    Ok(ProjectReport { text, has_failed })
+}
+
+/// Whether a language has an error among its findings, or with `strict` a warning.
+fn has_language_failed(strict: bool, groups: &[Group<'_>]) -> bool
+    ensures { result ≡ list_any (group_fails strict) (groups_view groups.now) }
+{
+    match groups {
+        [] => false,
+        [group, rest @ ..] => group.fails(strict) || has_language_failed(strict, rest),
+    }
+}
+
+impl Group<'_> {
+    /// Whether it is a language that fails.
+    fn fails(&self, strict: bool) -> bool
+        ensures { result ≡ group_fails strict (group_view self.now) }
+    {
+        match self.locale {
+            Some(_) => has_failed(strict, &self.found),
+            None => false,
+        }
+    }
+
+    /// Its name for people.
+    fn name(&self) -> &str
+        ensures { result.now ≡ group_name (group_view self.now).locale }
+    {
+        match self.locale {
+            Some(locale) => locale,
+            None => "reference",
+        }
+    }
+}
+
+/// What is written of groups.
+fn text_of(alloc: Global, output: Output<'_>, groups: Vec<Group<'_>>) -> Result<String, AllocError>
+    ensures { IfOk result (λ text. string_bytes text
+        ≡ text_by output.entry (groups_view groups.entry.items)) }
+{
+    match output.format {
+        Format::Text | Format::Terminal => text_of_groups(alloc, output, &groups),
+        Format::Json => json_of_groups(alloc, output.notes, &groups),
+        Format::Line | Format::Github | Format::Sarif | Format::Gitlab => {
+            let found = all_found(alloc, groups)?;
+            report(alloc, output.format, output.notes, &found, &[])
+        }
+    }
+}
+
+/// The report for people: after the findings of each group, how many there are.
+fn text_of_groups(
+    alloc: Global,
+    output: Output<'_>,
+    groups: &[Group<'_>],
+) -> Result<String, AllocError>
+    ensures { IfOk result (λ text. string_bytes text
+        ≡ flat_map (text_of_group output.entry) (groups_view groups.now)) }
+{
+    let mut text = String::new(alloc);
+    for group in groups {
+        push_group(&mut text, alloc, output, group)?;
+    }
+    Ok(text)
+}
+
+/// Appends the findings of a group, and how many there are.
+fn push_group(
+    text: &mut String,
+    alloc: Global,
+    output: Output<'_>,
+    group: &Group<'_>,
+) -> Result<(), AllocError>
+    ensures { OnOk result (Appends text.old text.new
+        (text_of_group output.entry (group_view group.now))) }
+{
+    let found = report(alloc, output.format, output.notes, &group.found, &[])?;
+    text.push_str(found.as_str())?;
+    push_masked(text, group.name())?;
+    text.push_str(": ")?;
+    push_totals(text, output.notes, group.files, &group.found)
+}
+
+/// A line of JSON for each finding.
+fn json_of_groups(alloc: Global, notes: bool, groups: &[Group<'_>]) -> Result<String, AllocError>
+    ensures { IfOk result (λ text. string_bytes text
+        ≡ flat_map (group_lines notes) (groups_view groups.now)) }
+{
+    let mut text = String::new(alloc);
+    for group in groups {
+        push_json_findings(&mut text, alloc, notes, group.locale, &group.found)?;
+    }
+    Ok(text)
+}
+
+/// The findings of all groups, in their order.
+fn all_found<'s>(alloc: Global, groups: Vec<Group<'s>>) -> Result<Vec<FileFindings<'s>>, AllocError>
+    ensures { IfOk result (λ all.
+        findings_view all.items ≡ all_found (groups_view groups.entry.items)) }
+{
+    let mut all = Vec::new(alloc);
+    for group in groups {
+        let Group { mut found, .. } = group;
+        all.append(&mut found)?;
+    }
+    Ok(all)
+}
+
+/// The group of a language: the findings of the files that are among these, or of all.
+///
+/// # Errors
+/// [`AllocError`] if memory runs out; nothing is kept.
+pub fn group_of<'s>(
+    alloc: Global,
+    project: &Project<'_>,
+    only: &[String],
+    linted: Linted<'s>,
+) -> Result<Group<'s>, AllocError> {
+    let Linted {
+        locale,
+        files,
+        present,
+        whole,
+        ..
+    } = linted;
+    let mut found = Vec::with_capacity(alloc, files.len())?;
+    if let (Some(whole), Some(file)) = (whole, project.file) {
+        if is_among(only, file.path.as_str()) {
+            found.push(whole)?;
+        }
+    }
+    for file in files {
+        let LintedFile {
+            planned,
+            found: findings,
+            ..
+        } = file;
+        if is_among(only, planned.path.as_str()) {
+            found.push(findings)?;
+        }
+    }
+    Ok(Group {
+        locale: Some(locale),
+        found,
+        files: present,
+    })
+}
+
+/// The group of the reference: the findings of the files that are among these, or of all. They are
+/// those of the files that were read, in their order.
+///
+/// # Errors
+/// [`AllocError`] if memory runs out; nothing is kept.
+pub fn group_of_reference<'s>(
+    alloc: Global,
+    only: &[String],
+    references: &[ReferenceFile<'s>],
+    findings: Vec<FileFindings<'s>>,
+) -> Result<Group<'s>, AllocError> {
+    let files = findings.len();
+    let mut rest = findings;
+    rest.reverse();
+    let mut found = Vec::with_capacity(alloc, files)?;
+    for reference in references {
+        if reference.file.is_none() {
+            continue;
+        }
+        if let Some(file) = rest.pop() {
+            if is_among(only, reference.path) {
+                found.push(file)?;
+            }
+        }
+    }
+    Ok(Group {
+        locale: None,
+        found,
+        files,
+    })
+}
+
+/// Whether a path is one of these or below one, or there are none.
+pub fn is_among(only: &[String], path: &str) -> bool {
+    only.is_empty() || only.iter().any(|other| is_in(other.as_str(), path))
+}
+
+/// Whether a path is this one, or below it.
+fn is_in(folder: &str, path: &str) -> bool {
+    match path.strip_prefix(folder) {
+        Some(rest) => rest.is_empty() || rest.starts_with('/') || folder.is_empty(),
+        None => false,
+    }
+}
