@@ -3,7 +3,8 @@
 # and lets no warning through; each has to print what the page says. Passes the tests of the folder `tests` through each in each
 # standard. Builds them as C++17 with the sanitizers for addresses and undefined behavior, and as C++23 with the one for threads,
 # and runs them; and the example notes.cpp, which has to print `notes.expected`. A compiler without a sanitizer builds the tests
-# without it.
+# without it. The tests are one unit, not optimized: reading the header takes most of the time of each, and optimizing checks of
+# sanitizers takes more than running them.
 set -eu
 here=$(cd "$(dirname "$0")" && pwd)
 root=$(cd "$here/../.." && pwd)
@@ -38,20 +39,20 @@ for compiler in $compilers; do
 done
 
 echo 'int main() { return 0; }' >"$built/none.cpp"
+for test in "$here"/tests/*.cpp; do
+    echo "#include \"$test\""
+done >"$built/tests.cpp"
 # Builds the tests with a sanitizer, and runs them. Its words are the compiler, the standard and the sanitizers.
 run_tests() {
     sanitizer="-fsanitize=$3 -fno-sanitize-recover=all"
     { $1 $sanitizer -o "$built/none" "$built/none.cpp" && "$built/none"; } 2>/dev/null || sanitizer=
-    for test in "$here"/tests/*.cpp; do
-        $1 $strict -std=c++$2 -O1 -g $sanitizer -pthread -I "$here" -I "$header" -c -o "$built/$(basename "$test" .cpp).o" "$test"
-    done
-    $1 $sanitizer -pthread -o "$built/tests" "$built"/*.o -L "$library" -lfluent_c -L "$kit" -llibc_c
+    build $1 "$built/tests" -std=c++$2 -g $sanitizer "$built/tests.cpp"
     printf '%s' "$1, C++$2, ${sanitizer:-without sanitizers}: "
     "$built/tests" "$root/examples/l10n"
 }
 for compiler in $compilers; do
     for standard in 17 20 2b; do
-        $compiler $strict -std=c++$standard -fsyntax-only -I "$here" -I "$header" "$here"/tests/*.cpp
+        $compiler $strict -std=c++$standard -fsyntax-only -I "$here" -I "$header" "$built/tests.cpp"
     done
     run_tests "$compiler" 17 address,undefined
     run_tests "$compiler" 2b thread

@@ -7,7 +7,7 @@
 
 namespace {
 
-const char source[] =
+const char messages_source[] =
     "hello = Hello, { $name }!\n"
     "    .title = A greeting\n"
     "    .about = To { $name } from { $other }\n"
@@ -30,9 +30,9 @@ std::string joined(const std::vector<std::string> &lines) {
 fluent::settings without_marks(const char *locale) { return fluent::settings(locale).with_isolating(false); }
 
 void answers() {
-    const fluent::bundle marked(source, "en");
+    const fluent::bundle marked(messages_source, "en");
     SAME(marked.format("hello", {{"name", "Jane"}}), "Hello, \u2068Jane\u2069!");
-    const fluent::bundle bundle(source, without_marks("en"));
+    const fluent::bundle bundle(messages_source, without_marks("en"));
     SAME(bundle.format("hello", {{"name", "Jane"}}), "Hello, Jane!");
     SAME(bundle.format("hello", {{"name", std::string("Jane")}}, "title"), "A greeting");
     SAME(bundle.format("unread", {{"count", 1}}), "One message");
@@ -48,7 +48,7 @@ void answers() {
     SAME(bundle.format("share", {{"share", 1e22}}), "1e+22");
     SAME(bundle.format("share", {{"share", fluent::value()}}), "");
     SAME(bundle.format("share", {{"share", fluent::value("text")}}), "text");
-    const fluent::bundle polish(std::vector<std::string_view>{source, "last = koniec\n"}, without_marks("pl"));
+    const fluent::bundle polish(std::vector<std::string_view>{messages_source, "last = koniec\n"}, without_marks("pl"));
     SAME(polish.format("unread", {{"count", 1234567.5}}), "1\u00a0234\u00a0567,5 messages");
     SAME(polish.format("last"), "koniec");
     const fluent::bundle listed({"a = 1\n", "b = 2\n"});
@@ -56,7 +56,7 @@ void answers() {
 }
 
 void errors() {
-    const fluent::bundle bundle(source, without_marks("en"));
+    const fluent::bundle bundle(messages_source, without_marks("en"));
     const auto given = bundle.try_format("hello");
     SAME(given.has_value(), true);
     SAME(given->text, "Hello, {$name}!");
@@ -70,7 +70,7 @@ void errors() {
     THROWS(bad_argument, bundle.format("hello", {{"name", fluent::decimal{"1,5"}}}));
     THROWS(not_utf8, bundle.format("hello", {{"name", "\xff"}}));
     THROWS(not_utf8, fluent::bundle("a = \xff\n"));
-    THROWS(unknown_locale, fluent::bundle(source, "not a locale"));
+    THROWS(unknown_locale, fluent::bundle(messages_source, "not a locale"));
     try {
         bundle.format("missing");
     } catch (const std::exception &thrown) {
@@ -86,7 +86,7 @@ void errors() {
 }
 
 void lists() {
-    const fluent::bundle bundle(source, "en");
+    const fluent::bundle bundle(messages_source, "en");
     SAME(joined(bundle.messages()), "hello;unread;alone;share;");
     SAME(joined(bundle.attributes("hello")), "title;about;");
     SAME(joined(bundle.attributes("unread")), "");
@@ -105,7 +105,7 @@ void moves() {
     static_assert(std::is_nothrow_move_constructible_v<fluent::bundle>);
     static_assert(std::is_nothrow_move_assignable_v<fluent::bundle>);
     static_assert(!std::is_copy_constructible_v<fluent::localization> && std::is_move_constructible_v<fluent::localization>);
-    fluent::bundle first(source, without_marks("en")), other("a = 1\n");
+    fluent::bundle first(messages_source, without_marks("en")), other("a = 1\n");
     fluent::bundle second(std::move(first));
     SAME(second.format("hello", {{"name", "Jane"}}), "Hello, Jane!");
     SAME(first.has("hello"), false);

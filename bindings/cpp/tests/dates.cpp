@@ -7,7 +7,7 @@
 
 namespace {
 
-constexpr std::string_view source =
+constexpr std::string_view dates_source =
     "plain = { $date }\n"
     "long = { DATETIME($date, dateStyle: \"long\") }\n"
     "full = { DATETIME($date, dateStyle: \"full\", timeStyle: \"full\") }\n"
@@ -21,7 +21,7 @@ fluent::settings plain(std::string_view locale) { return fluent::settings(locale
 
 void locales_write_dates() {
     const auto evening = fluent::date(2026, 11, 28).at(20, 26, 5, 123000000).on(std::chrono::hours(1));
-    const fluent::bundle english(source, plain("en")), german(source, plain("de"));
+    const fluent::bundle english(dates_source, plain("en")), german(dates_source, plain("de"));
     SAME(english.format("plain", {{"date", evening}}), "11/28/2026");
     SAME(english.format("long", {{"date", evening}}), "November 28, 2026");
     SAME(english.format("full", {{"date", evening}}), "Saturday, November 28, 2026 at 8:26:05 PM GMT+01:00");
@@ -40,19 +40,19 @@ void locales_write_dates() {
 
 void plain_dates() {
     const fluent::date day(2026, 11, 28);
-    const fluent::bundle unknown(source, plain("tlh"));
+    const fluent::bundle unknown(dates_source, plain("tlh"));
     SAME(unknown.format("plain", {{"date", day}}), "2026-11-28");
     SAME(unknown.format("long", {{"date", day.at(20, 26).on(std::chrono::seconds(-12600))}}), "2026-11-28T20:26:00-03:30");
     THROWS(bad_argument, unknown.format("plain", {{"date", fluent::date(2026, 2, 30)}}));
-    THROWS(bad_argument, fluent::bundle(source, "en").format("plain", {{"date", fluent::date(70000, 300, 0)}}));
+    THROWS(bad_argument, fluent::bundle(dates_source, "en").format("plain", {{"date", fluent::date(70000, 300, 0)}}));
 }
 
 void functions_get_dates() {
     const fluent::functions own{{"NAME", [](const fluent::call &call) { return call.at(std::size_t{0}).date()->iso(); }}};
-    const fluent::bundle bundle(source, plain("en"), own);
+    const fluent::bundle bundle(dates_source, plain("en"), own);
     SAME(bundle.format("own", {{"date", fluent::date(2026, 11, 28)}}), "2026-11-28");
     const fluent::functions other{{"DATETIME", [](const fluent::call &) { return "a day"; }}};
-    SAME(fluent::bundle(source, plain("en"), other).format("long", {{"date", fluent::date(2026, 11, 28)}}), "a day");
+    SAME(fluent::bundle(dates_source, plain("en"), other).format("long", {{"date", fluent::date(2026, 11, 28)}}), "a day");
 }
 
 void times_of_the_system() {
@@ -62,7 +62,7 @@ void times_of_the_system() {
     SAME(fluent::date(evening).iso(), "2026-11-28T19:26:05Z");
     SAME(fluent::date(system_clock::time_point(milliseconds(-1))).iso(), "1969-12-31T23:59:59.999000000Z");
     SAME(fluent::date(system_clock::time_point(seconds(951782400))).iso(), "2000-02-29T00:00:00Z");
-    THROWS(bad_argument, fluent::bundle(source, "en").format("plain", {{"date", fluent::date(evening, hours(24))}}));
+    THROWS(bad_argument, fluent::bundle(dates_source, "en").format("plain", {{"date", fluent::date(evening, hours(24))}}));
 }
 
 } // namespace

@@ -5,7 +5,7 @@
 
 namespace {
 
-const char source[] =
+const char calling_source[] =
     "platform = { PLATFORM() }\n"
     "due = { DATE(\"2026-11-28\", style: \"long\") }\n"
     "given = { SHOW($first, $second, key: 1.50) }\n"
@@ -36,7 +36,7 @@ fluent::bundle made(int &count, const fluent::bundle *&inner) {
     fluent::settings settings("en");
     settings.isolating = false;
     return fluent::bundle(
-        source, settings,
+        calling_source, settings,
         {
             {"PLATFORM", [](const fluent::call &) { return "linux"; }},
             {"DATE", [](const fluent::call &call) { return call.at("style").text() + ' ' + call.at(0).text(); }},

@@ -7,7 +7,7 @@
 
 namespace {
 
-std::string joined(const std::vector<std::string> &tags) {
+std::string spaced(const std::vector<std::string> &tags) {
     std::string made;
     for (const std::string &tag : tags)
         made += tag + ' ';
@@ -20,7 +20,7 @@ std::string asked(const char *language, const char *all, const char *messages, c
     setenv("LC_ALL", all, 1);
     setenv("LC_MESSAGES", messages, 1);
     setenv("LANG", lang, 1);
-    return joined(fluent::system_languages());
+    return spaced(fluent::system_languages());
 }
 
 void of_the_system() {
@@ -39,16 +39,16 @@ void of_the_system() {
 }
 
 void negotiated() {
-    SAME(joined(fluent::negotiate({"de-AT", "fr"}, {"en-US", "de", "fr"})), "de fr ");
-    SAME(joined(fluent::negotiate({"de-AT", "fr"}, {"en-US", "de", "fr"}, fluent::strategy::lookup)), "de ");
-    SAME(joined(fluent::negotiate({"pl"}, {"en-US", "de"})), "");
+    SAME(spaced(fluent::negotiate({"de-AT", "fr"}, {"en-US", "de", "fr"})), "de fr ");
+    SAME(spaced(fluent::negotiate({"de-AT", "fr"}, {"en-US", "de", "fr"}, fluent::strategy::lookup)), "de ");
+    SAME(spaced(fluent::negotiate({"pl"}, {"en-US", "de"})), "");
 }
 
 void loaded(const std::string &folder) {
     fluent::settings settings;
     settings.isolating = false;
     const auto texts = fluent::localization::load(folder, {"main.ftl", "missing.ftl"}, {"de-AT", "fr"}, "en-US", settings);
-    SAME(joined(texts.locales()), "de fr en-US ");
+    SAME(spaced(texts.locales()), "de fr en-US ");
     SAME(texts.format("welcome", {{"name", "Jane"}}), "Willkommen, Jane.");
     SAME(texts.format("missing"), "missing");
     SAME(texts.try_format("missing").why() == fluent::status::no_message, true);
@@ -79,7 +79,7 @@ void added() {
     SAME(texts.has("nothing"), false);
     SAME(texts.format("count", {{"n", 1234.5}}), "1234.5");
     THROWS(not_utf8, texts.add("fr", {"a = \xff\n"}));
-    SAME(joined(texts.locales()), "de x-none en ");
+    SAME(spaced(texts.locales()), "de x-none en ");
 }
 
 } // namespace
