@@ -97,11 +97,21 @@ editor_part() {
     python3 "$made/vsix.py" "$root/editors" "$version" "$folder/share/editors" >/dev/null
 }
 
+# The hooks of this repository as those of a project whose people have `ftl` on their path.
+hooks_part() {
+    mkdir -p "$folder/share/pre-commit"
+    {
+        printf 'repos:\n  - repo: local\n    hooks:\n'
+        sed 's/^/      /' "$root/.pre-commit-hooks.yaml"
+    } >"$folder/share/pre-commit/.pre-commit-config.yaml"
+}
+
 program_part
 library_part
 cargo_part
 python_part
 editor_part
+hooks_part
 python3 "$made/pages.py" "$root" "$folder"
 install -m 755 "$made/install.sh" "$folder/install.sh"
 install -m 644 "$made/README.md" "$folder/README.md"

@@ -182,6 +182,29 @@ python_page() {
     typed python/first-program.md
 }
 
+# Calls the program of a hook of the release with files, as pre-commit does.
+hook() {
+    local line
+    line=$(sed -n "/- id: $1\$/,/entry:/s/^ *entry: //p" .pre-commit-config.yaml)
+    shift
+    eval "$line" '"$@"'
+}
+
+# The hook for findings, over a commit of two languages with a mistake in each. A third file has one, and isn't part of it.
+hooks_name_mistakes() {
+    mkdir -p hooks/l10n/{en,de,pl} && cd hooks && cp ../home/.local/share/pre-commit/.pre-commit-config.yaml . || return
+    printf 'locales = ["de", "pl"]\n[[paths]]\nreference = "l10n/en/**"\nl10n = "l10n/{locale}/**"\n' >l10n.toml
+    printf 'hello = Hello, { -who }!\n' >l10n/en/menu.ftl
+    printf 'hello =   Hallo, { -whom }!\n' | tee l10n/de/menu.ftl >l10n/pl/menu.ftl
+    printf -- '-who = you\n' | tee l10n/{en,de}/terms.ftl >l10n/pl/terms.ftl
+    printf 'bye = { -whom }\n' >l10n/de/other.ftl
+    export PATH=$room/home/.local/bin:$PATH
+    ! hook ftl-lint l10n/de/menu.ftl l10n/pl/menu.ftl >found || return
+    [ "$(grep -c 'error: .*\[unknown-term\]$' found)" = 2 ] && [ "$(grep -c 'error: ' found)" = 2 ] &&
+        grep -q '^l10n/de/menu.ftl:1' found && grep -q '^l10n/pl/menu.ftl:1' found || return
+    hook ftl-lint l10n/de/terms.ftl && hook ftl-tidy l10n/de/menu.ftl && [ "$(cat l10n/de/menu.ftl)" = 'hello = Hallo, { -whom }!' ]
+}
+
 # The example that changes files, over a file of the stranger's.
 python_example() {
     cd 'a stranger' &&
@@ -258,6 +281,7 @@ step_with tar 'the man page and the completions have each command and option' ma
 step_with bash 'bash completes' completes
 step_with tar 'it installs and is removed' installs
 step_with python3 'the pages on the command, on mistakes and on a project show what ftl prints' command_pages
+step_with tar 'its hooks for pre-commit name what is wrong with the files of a commit' hooks_name_mistakes
 step_with tar 'a damaged release is not installed' damage_is_noticed
 step_with python3 'the links of its pages lead somewhere' links_lead_somewhere
 step_with 'cc pkg-config python3' 'the first program in C does what its page says' c_program
