@@ -1,4 +1,4 @@
-/* Shows dates in three languages: by fluent_date_text, and by messages that call DATETIME.
+/* Shows dates in three languages: by fluent_date_text, and by messages.
  *
  * Build and run it by run.sh beside this file.
  */
@@ -9,46 +9,28 @@
 
 static const char SOURCE[] =
     "due = { DATETIME($date, dateStyle: \"full\", timeStyle: \"short\") }\n"
+    "day = { $date }\n"
     "month = { DATETIME($date, month: \"long\", year: \"numeric\") }\n"
     "slip = { DATETIME($date, month: \"big\", weekday: \"short\") }\n"
     "wrong = { DATETIME(\"tomorrow\") }\n";
 
-static const struct FluentSource FUNCTIONS[] = {{(const uint8_t *)"DATETIME", 8}};
-
-/* Formats a message, and answers its calls of DATETIME as a locale writes dates. */
-static uint32_t format(
-    struct FluentBundle *bundle, const char *locale, const char *id, const struct FluentArgument *date, struct FluentText *text) {
-    struct FluentAnswers answers = {0};
-    struct FluentText asked = {0};
-    struct FluentCall call = {0};
-    uint32_t status;
-    do {
-        status = fluent_call(bundle, id, NULL, date, 1, answers.list, answers.count, text, NULL, &asked);
-    } while (status == FLUENT_CALL && (status = fluent_read_call(&asked, &call)) == FLUENT_READ
-        && (status = fluent_answer_date(&answers, &asked, &call, locale)) == FLUENT_READ);
-    fluent_free_call(&call);
-    fluent_free_answers(&answers);
-    fluent_free_text(&asked);
-    return status;
-}
-
 /* Prints the messages of a bundle, after the date in digits. */
 static uint32_t print(const char *locale, const struct FluentDate *date) {
-    static const char *const ids[] = {"due", "month", "slip", "wrong"};
+    static const char *const ids[] = {"due", "day", "month", "slip", "wrong"};
     struct FluentBundleOptions options = fluent_bundle_options(locale);
     struct FluentBundle bundle = {0};
     struct FluentText text = {0};
     char iso[FLUENT_ISO_ROOM];
-    struct FluentArgument argument = fluent_text_argument("date", fluent_date_iso(date, iso));
+    struct FluentArgument argument = fluent_date_argument("date", date, iso);
     uint32_t status = fluent_date_text(locale, date, NULL, 0, &text);
     size_t each;
     options.isolating = false;
     if (status == FLUENT_READ)
-        status = fluent_bundle_calling(SOURCE, &options, FUNCTIONS, 1, &bundle);
+        status = fluent_bundle_with(SOURCE, &options, &bundle);
     if (status == FLUENT_READ)
         printf("%s: %s\n", locale, fluent_string(&text));
     for (each = 0; status == FLUENT_READ && each < sizeof ids / sizeof *ids; each++) {
-        status = format(&bundle, locale, ids[each], &argument, &text);
+        status = fluent_format(&bundle, ids[each], NULL, &argument, 1, &text, NULL);
         if (status == FLUENT_READ)
             printf("    %s\n", fluent_string(&text));
     }

@@ -156,7 +156,7 @@ static uint32_t add_argument(
     return FLUENT_READ;
 }
 
-/* A text or the digits of a number, without a name. */
+/* A text, the digits of a number, or a date, without a name. */
 static struct FluentArgument written(const char *text, size_t len, uint32_t kind) {
     struct FluentArgument argument = fluent_text_argument(NULL, NULL);
     argument.text = bytes_of(text);
@@ -184,6 +184,10 @@ uint32_t fluent_handle_unsigned(struct FluentHandle *handle, const char *name, s
 uint32_t fluent_handle_double(struct FluentHandle *handle, const char *name, size_t name_len, double number) {
     struct FluentDigits digits;
     return add_argument(handle, fluent_double_argument(NULL, number, &digits), name, name_len);
+}
+
+uint32_t fluent_handle_date(struct FluentHandle *handle, const char *name, size_t name_len, const char *iso, size_t len) {
+    return add_argument(handle, written(iso, len, FLUENT_DATETIME), name, name_len);
 }
 
 uint32_t fluent_handle_nothing(struct FluentHandle *handle, const char *name, size_t name_len) {
@@ -257,6 +261,10 @@ uint32_t fluent_handle_answer_decimal(struct FluentHandle *handle, const char *d
 uint32_t fluent_handle_answer_double(struct FluentHandle *handle, double number) {
     struct FluentDigits digits;
     return answer(handle, fluent_double_argument(NULL, number, &digits));
+}
+
+uint32_t fluent_handle_answer_date(struct FluentHandle *handle, const char *iso, size_t len) {
+    return answer(handle, written(iso, len, FLUENT_DATETIME));
 }
 
 uint32_t fluent_handle_answer_nothing(struct FluentHandle *handle) { return answer(handle, fluent_no_value(NULL)); }

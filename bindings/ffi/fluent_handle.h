@@ -53,12 +53,14 @@ void fluent_handle_stack(struct FluentHandle *handle, size_t bytes);
 uint32_t fluent_handle_make(struct FluentHandle *handle);
 
 /* An argument of the next message: a text; a number as its digits, such as "1.50"; an integer; a double, whichever the locale
- * of the program is; or no value. They return FLUENT_READ or FLUENT_NO_MEMORY. */
+ * of the program is; a date as ISO 8601 has it, such as "2026-11-28T20:15:00+01:00"; or no value. They return FLUENT_READ or
+ * FLUENT_NO_MEMORY. */
 uint32_t fluent_handle_string(struct FluentHandle *handle, const char *name, size_t name_len, const char *text, size_t len);
 uint32_t fluent_handle_decimal(struct FluentHandle *handle, const char *name, size_t name_len, const char *digits, size_t len);
 uint32_t fluent_handle_integer(struct FluentHandle *handle, const char *name, size_t name_len, int64_t number);
 uint32_t fluent_handle_unsigned(struct FluentHandle *handle, const char *name, size_t name_len, uint64_t number);
 uint32_t fluent_handle_double(struct FluentHandle *handle, const char *name, size_t name_len, double number);
+uint32_t fluent_handle_date(struct FluentHandle *handle, const char *name, size_t name_len, const char *iso, size_t len);
 uint32_t fluent_handle_nothing(struct FluentHandle *handle, const char *name, size_t name_len);
 
 /* Formats a message, or an attribute of it if `attribute_len` isn't 0. It returns FLUENT_READ, and the text and its errors are
@@ -71,8 +73,8 @@ uint32_t fluent_handle_format(
     struct FluentHandle *handle, const char *id, size_t id_len, const char *attribute, size_t attribute_len);
 
 /* The function that is called, how many positional and named arguments it gets, and each by its index from 0: its kind, such as
- * FLUENT_TEXT, FLUENT_DECIMAL or FLUENT_NO_VALUE; its text, or the digits of a number; and its name, which is empty for a
- * positional one. Named ones follow the positional ones. An index that is too large has no value. Texts end in a byte 0, and
+ * FLUENT_TEXT, FLUENT_DECIMAL, FLUENT_DATETIME or FLUENT_NO_VALUE; its text, the digits of a number, or a date as ISO 8601 has it;
+ * and its name, which is empty for a positional one. Named ones follow the positional ones. An index that is too large has no value. Texts end in a byte 0, and
  * last until the next call of fluent_handle_format. */
 const char *fluent_handle_called(const struct FluentHandle *handle);
 size_t fluent_handle_positional(const struct FluentHandle *handle);
@@ -82,11 +84,12 @@ const char *fluent_handle_given_text(const struct FluentHandle *handle, size_t i
 size_t fluent_handle_given_len(const struct FluentHandle *handle, size_t index);
 const char *fluent_handle_given_name(const struct FluentHandle *handle, size_t index);
 
-/* The answer to the call: a text, a number as its digits, a double, or no value. They return FLUENT_READ, FLUENT_NO_MEMORY, or
+/* The answer to the call: a text, a number as its digits, a double, a date, or no value. They return FLUENT_READ, FLUENT_NO_MEMORY, or
  * FLUENT_BAD_ARGUMENT if there is no call. */
 uint32_t fluent_handle_answer_string(struct FluentHandle *handle, const char *text, size_t len);
 uint32_t fluent_handle_answer_decimal(struct FluentHandle *handle, const char *digits, size_t len);
 uint32_t fluent_handle_answer_double(struct FluentHandle *handle, double number);
+uint32_t fluent_handle_answer_date(struct FluentHandle *handle, const char *iso, size_t len);
 uint32_t fluent_handle_answer_nothing(struct FluentHandle *handle);
 
 /* Whether there is such a text: FLUENT_READ if there is, and else as fluent_bundle_has. */

@@ -25,6 +25,8 @@ static const char SOURCE[] =
     "sum = { $a } { $b } { $c } { $d } { $e } { $f }\n"
     "called = { SHOUT(\"a\\u0000b\", 1.50, $none, style: \"long\", size: 2) } { SHOUT() }\n"
     "half = { HALF($n) ->\n    [one] one\n   *[other] { HALF($n) }\n}\n"
+    "due = { DATETIME($day, dateStyle: \"long\") }\n"
+    "soon = { SHOUT($day) }\n"
     "hello = Again\n"
     "broken\n";
 
@@ -131,11 +133,25 @@ static void test_functions(void) {
     fluent_handle_free(handle);
 }
 
+static void test_dates(void) {
+    struct FluentHandle *handle = made("de");
+    CHECK(fluent_handle_date(handle, TEXT("day"), TEXT("2026-11-28")) == FLUENT_READ);
+    CHECK(fluent_handle_format(handle, TEXT("due"), NULL, 0) == FLUENT_READ && shows(handle, "28. November 2026"));
+    CHECK(fluent_handle_date(handle, TEXT("day"), TEXT("tomorrow")) == FLUENT_READ);
+    CHECK(fluent_handle_format(handle, TEXT("due"), NULL, 0) == FLUENT_BAD_ARGUMENT);
+    CHECK(fluent_handle_date(handle, TEXT("day"), TEXT("2026-11-28")) == FLUENT_READ);
+    CHECK(fluent_handle_format(handle, TEXT("soon"), NULL, 0) == FLUENT_CALL);
+    CHECK(fluent_handle_given_kind(handle, 0) == FLUENT_DATETIME && strcmp(fluent_handle_given_text(handle, 0), "2026-11-28") == 0);
+    CHECK(fluent_handle_answer_date(handle, TEXT("2024-02-29")) == FLUENT_READ);
+    CHECK(fluent_handle_format(handle, TEXT("soon"), NULL, 0) == FLUENT_READ && shows(handle, "29.2.2024"));
+    fluent_handle_free(handle);
+}
+
 static void test_lists(void) {
     struct FluentHandle *handle = made("en"), *empty = fluent_handle_new();
     CHECK(fluent_handle_has(handle, TEXT("hello"), NULL, 0) == FLUENT_READ);
     CHECK(fluent_handle_has(handle, TEXT("hello"), TEXT("x")) == FLUENT_NO_PATTERN);
-    CHECK(fluent_handle_messages(handle) == FLUENT_READ && shows(handle, "hello\nsum\ncalled\nhalf\n"));
+    CHECK(fluent_handle_messages(handle) == FLUENT_READ && shows(handle, "hello\nsum\ncalled\nhalf\ndue\nsoon\n"));
     CHECK(fluent_handle_attributes(handle, TEXT("hello")) == FLUENT_READ && shows(handle, "title\n"));
     CHECK(fluent_handle_variables(handle, TEXT("hello")) == FLUENT_READ && shows(handle, "name\n"));
     CHECK(fluent_handle_variables(handle, TEXT("none")) == FLUENT_NO_MESSAGE);
@@ -167,6 +183,7 @@ int main(void) {
     test_texts();
     test_options();
     test_functions();
+    test_dates();
     test_lists();
     printf("%u checks, %u failed\n", checked, failed);
     return failed != 0;

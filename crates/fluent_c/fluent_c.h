@@ -52,7 +52,8 @@ uint32_t fluent_version(void);
 #define FLUENT_NO_MESSAGE 4
 /* The message has no value, or no attribute of the name. */
 #define FLUENT_NO_PATTERN 5
-/* An argument's kind isn't one of those below, or its decimal is no number: fluent_bad_argument of fluent.h says which.
+/* An argument's kind isn't one of those below, its decimal is no number, or its text is no date: fluent_bad_argument of
+ * fluent.h says which.
  * fluent_negotiate: there is no such strategy. A call that takes options: their size isn't one that the library knows.
  * fluent_write_date: the numbers make no date, no time or no offset. */
 #define FLUENT_BAD_ARGUMENT 6
@@ -398,9 +399,14 @@ uint32_t fluent_bundle_new_with(
 /* A float: a number written as a decimal, whose digits don't say how many are shown. 0.3333333333333333 is shown with as many
  * as the locale shows at most, which are three, unless the message asks for others; with plain numbers it is shown with all. */
 #define FLUENT_FLOAT 5
+/* A date, with its time and the offset of its clock from UTC if it has them, as ISO 8601 writes it: `2026-11-28`,
+ * `2026-11-28T20:15:05.123`, `2026-11-28T20:15:00+01:00`. The bundle shows it as its locale writes dates, and messages set how by
+ * `{ DATETIME($date, dateStyle: "long") }`: docs/reference/dates.md. A bundle without a locale that CLDR knows shows it as ISO 8601
+ * has it. The year has four digits. fluent_date_argument of fluent.h makes one of a `struct tm` or a `time_t`. */
+#define FLUENT_DATETIME 6
 
-/* An argument: its name, without `$`, and its value as its kind says. `text` is read for a text, a decimal and a float; for
- * the others it still needs a pointer that isn't null, and `text_len` is 0. */
+/* An argument: its name, without `$`, and its value as its kind says. `text` is read for a text, a decimal, a float and a date;
+ * for the others it still needs a pointer that isn't null, and `text_len` is 0. */
 struct FluentArgument {
     const uint8_t *name FLUENT_ZERO;
     size_t name_len FLUENT_ZERO;
@@ -439,9 +445,9 @@ uint32_t fluent_bundle_format(
  * fluent_bundle_format, and the calls that list messages, attributes or variables, make an index without the functions when the
  * first of them is called, and keep it: it takes memory and time as the bundle itself did, without the reading.
  *
- * A name that is the id of a message or a term of the sources, or NUMBER, is no function. The names are copied. The call returns
- * the numbers of fluent_bundle_new_with, and FLUENT_NOT_UTF8, too, if a name isn't UTF-8. `functions` needs a pointer that
- * isn't null, also if `function_count` is 0.
+ * A name that is the id of a message or a term of the sources, or NUMBER, is no function. A function DATETIME takes the place of
+ * the one that each bundle has. The names are copied. The call returns the numbers of fluent_bundle_new_with, and
+ * FLUENT_NOT_UTF8, too, if a name isn't UTF-8. `functions` needs a pointer that isn't null, also if `function_count` is 0.
  */
 uint32_t fluent_bundle_new_calling(
     const struct FluentSource *sources,
@@ -466,12 +472,12 @@ uint32_t fluent_bundle_new_calling(
  *
  * The text of a call is JSON, an array of the function's name, an array of the positional arguments and an object of the named
  * ones: `["PLATFORM",[],{}]`, or `["DATETIME",["2026-11-28"],{"dateStyle":"long"}]`. A text is a text there, a number
- * `{"number":"1.50"}`, whose digits are plain, and an argument without a value is null. Of an argument's options only the
- * digits after the point are passed on.
+ * `{"number":"1.50"}`, whose digits are plain, a date `{"date":"2026-11-28"}` as ISO 8601 has it, and an argument without a
+ * value is null. Of an argument's options only the digits after the point are passed on.
  *
  * Else it returns the numbers of fluent_bundle_format, and `call` is unchanged. FLUENT_NOT_UTF8 and FLUENT_BAD_ARGUMENT may
- * also mean an answer. A bundle that was made without functions answers as fluent_bundle_format does. Of answers to one call
- * the last counts. `answers` needs a pointer that isn't null, also if `answer_count` is 0.
+ * also mean an answer. A bundle that another call than fluent_bundle_new_calling made answers as fluent_bundle_format does. Of
+ * answers to one call the last counts. `answers` needs a pointer that isn't null, also if `answer_count` is 0.
  */
 uint32_t fluent_bundle_call(
     struct FluentBundle *bundle,
@@ -497,8 +503,8 @@ uint32_t fluent_bundle_call(
  * a placeable that holds anything but literals, variables and calls of these, such as a select or a term: what comes after it
  * may depend on its answer.
  *
- * It returns FLUENT_READ, also if the text is empty, since each call that is met has an answer, or the bundle has no functions.
- * Else it returns the numbers of fluent_bundle_call, and `calls` is unchanged. */
+ * It returns FLUENT_READ, also if the text is empty, since each call that is met has an answer, or another call than
+ * fluent_bundle_new_calling made the bundle. Else it returns the numbers of fluent_bundle_call, and `calls` is unchanged. */
 uint32_t fluent_bundle_calls(
     struct FluentBundle *bundle,
     const uint8_t *id,
@@ -553,10 +559,11 @@ uint32_t fluent_bundle_find(
  * The text is that of the id and the attribute, whatever the number is. If the message isn't at its number in this bundle,
  * since the number is of another bundle, or the bundle was made anew, the message is looked up by its id.
  *
- * It returns what fluent_bundle_call returns without answers to calls, with the same text and errors: if the bundle was made
- * without functions, these are those of fluent_bundle_format. FLUENT_CALL says that the pattern calls a function: go on by
- * fluent_bundle_call. FLUENT_NO_ROOM says that the text has more than `room_len` bytes, and `len` how many: call again with as
- * many. Unless it returns FLUENT_READ, `room` and `errors` are unchanged. `room` isn't null, also if `room_len` is 0. */
+ * It returns what fluent_bundle_call returns without answers to calls, with the same text and errors: if another call than
+ * fluent_bundle_new_calling made the bundle, these are those of fluent_bundle_format. FLUENT_CALL says that the pattern calls a
+ * function: go on by fluent_bundle_call. FLUENT_NO_ROOM says that the text has more than `room_len` bytes, and `len` how many:
+ * call again with as many. Unless it returns FLUENT_READ, `room` and `errors` are unchanged. `room` isn't null, also if
+ * `room_len` is 0. */
 uint32_t fluent_bundle_write(
     struct FluentBundle *bundle,
     const struct FluentPattern *pattern,

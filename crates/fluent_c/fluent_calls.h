@@ -85,7 +85,8 @@ struct FluentCall {
     const char *name FLUENT_ZERO;
     size_t name_len FLUENT_ZERO;
     /* The positional arguments in their order, without names. An argument is a text, of kind FLUENT_TEXT; a number, of kind
-     * FLUENT_DECIMAL, whose text is its digits; or no value, FLUENT_NO_VALUE, whose text is empty. */
+     * FLUENT_DECIMAL, whose text is its digits; a date, of kind FLUENT_DATETIME, whose text is that of ISO 8601; or no value,
+     * FLUENT_NO_VALUE, whose text is empty. */
     const struct FluentArgument *positional FLUENT_ZERO;
     size_t positional_count FLUENT_ZERO;
     /* The named arguments, each with its name, after which is a byte 0 too. */
@@ -209,7 +210,7 @@ static inline bool fluent_reads_text(struct FluentReading *reading, const uint8_
     return true;
 }
 
-/* Reads a text, a number or no value. Gives whether it is right. */
+/* Reads a text, a number, a date or no value. Gives whether it is right. */
 static inline bool fluent_reads_value(struct FluentReading *reading, struct FluentArgument *argument) {
     argument->text = fluent_bytes(NULL);
     argument->kind = FLUENT_NO_VALUE;
@@ -219,9 +220,11 @@ static inline bool fluent_reads_value(struct FluentReading *reading, struct Flue
         argument->kind = FLUENT_TEXT;
         return fluent_reads_text(reading, &argument->text, &argument->text_len);
     }
-    argument->kind = FLUENT_DECIMAL;
-    return fluent_passes_all(reading, "\"number\":") && fluent_reads_text(reading, &argument->text, &argument->text_len)
-        && fluent_passes(reading, '}');
+    if (!fluent_passes(reading, '"'))
+        return false;
+    argument->kind = fluent_passes(reading, 'n') ? FLUENT_DECIMAL : FLUENT_DATETIME;
+    return fluent_passes_all(reading, argument->kind == FLUENT_DECIMAL ? "umber\":" : "date\":")
+        && fluent_reads_text(reading, &argument->text, &argument->text_len) && fluent_passes(reading, '}');
 }
 
 /* Reads arguments between brackets, or named ones between braces, and counts them. Gives whether they are right. */

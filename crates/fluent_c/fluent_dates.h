@@ -1,10 +1,11 @@
-/* Dates: of the numbers of a `struct tm`, of a `time_t` and of ISO 8601, as a language writes them, and as the answers to the
- * calls of DATETIME. fluent.h includes it.
+/* Dates: of the numbers of a `struct tm`, of a `time_t` and of ISO 8601, as a language writes them, as arguments of messages, and
+ * as the answers to calls of a DATETIME of your own. fluent.h includes it.
  *
- * A message shows a date by `{ DATETIME($date, dateStyle: "long") }`. Name DATETIME among the functions of your bundle, and pass
- * `$date` as a text of ISO 8601, as fluent_date_iso makes it of a date. Then fluent_answer_date answers its calls:
+ * A message shows a date by `{ $date }`, or by `{ DATETIME($date, dateStyle: "long") }`:
  *
- *     status = fluent_is_call_of(&call, "DATETIME") ? fluent_answer_date(&answers, &text, &call, "de") : ..;
+ *     struct FluentDate date = fluent_date_of_time(time, offset);
+ *     char iso[FLUENT_ISO_ROOM];
+ *     struct FluentArgument argument = fluent_date_argument("date", &date, iso);
  *
  * All of it is in this header, and is tested, not proved. The example dates.c is such a program.
  */
@@ -126,6 +127,15 @@ static inline const char *fluent_date_iso(const struct FluentDate *date, char is
     return iso;
 }
 
+/* An argument that is a date, of the kind FLUENT_DATETIME. `iso` has room for its text, and has to last as long as the argument. If
+ * fluent_date_iso gives no date, the argument is refused with FLUENT_BAD_ARGUMENT. */
+static inline struct FluentArgument fluent_date_argument(
+    const char *name, const struct FluentDate *date, char iso[FLUENT_ISO_ROOM]) {
+    struct FluentArgument argument = fluent_text_argument(name, fluent_date_iso(date, iso));
+    argument.kind = FLUENT_DATETIME;
+    return argument;
+}
+
 /* Reads this number of digits. Gives whether they are there. */
 static inline bool fluent_date_digits(const char **at, int count, uint32_t *number) {
     int each;
@@ -207,8 +217,9 @@ static inline bool fluent_date_of_iso(const char *iso, struct FluentDate *date) 
     return true;
 }
 
-/* Answers a call of DATETIME, whose text is `text`: its first argument is a date as ISO 8601 writes it, and the others are
- * options. Without such a date, and in a locale that isn't known, it has no value.
+/* Answers a call of a DATETIME that your program names among its functions, whose text is `text`: its first argument is a date, or a
+ * text as ISO 8601 writes a date, and the others are options. Without such a date, and in a locale that isn't known, it has no
+ * value. A bundle without such a function needs no answers: it has its own DATETIME, which takes dates alone.
  *
  * It returns FLUENT_READ, or FLUENT_NO_MEMORY, or FLUENT_BAD_ARGUMENT if `text` holds no text. The answers are unchanged then. */
 static inline uint32_t fluent_answer_date(
@@ -218,7 +229,7 @@ static inline uint32_t fluent_answer_date(
     struct FluentText shown = {0};
     struct FluentDate date;
     uint32_t status = FLUENT_BAD_ARGUMENT;
-    if (first && first->kind == FLUENT_TEXT && fluent_date_of_iso(fluent_argument_string(first), &date))
+    if (first && (first->kind == FLUENT_TEXT || first->kind == FLUENT_DATETIME) && fluent_date_of_iso(fluent_argument_string(first), &date))
         status = fluent_date_text(locale, &date, call->named, call->named_count, &shown);
     if (status == FLUENT_NO_MEMORY)
         return status;

@@ -100,7 +100,7 @@ CALLED = '''
 INNER = {
     'fluent_parsed': ['Collected', 'DedentedElements', 'IndentedElements'],
     'fluent_json_write': ['Object'],
-    'fluent_run': ['Asking', 'Caller', 'Desk'],
+    'fluent_run': ['Caller', 'DateTimeCaller', 'Desk'],
     'fluent_text': ['Texts', 'Slices', 'StackBudget'],
     'fluent_kept': ['Bundle', 'RawBox', 'Question', 'Answer', 'Sources'],
 }

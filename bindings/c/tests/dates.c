@@ -52,6 +52,9 @@ static const struct Row ROWS[] = {
     {"no offset", BYTES("en"), {EVENING, .offset = INT32_MIN, .has_offset = true}, {{0}}, 0, FLUENT_BAD_ARGUMENT, {0}},
     {"an offset that isn't there", BYTES("en"), {EVENING, .offset = INT32_MIN}, {{0}}, 0, FLUENT_READ, BYTES("11/28/2026")},
     {"an unknown kind", BYTES("en"), {EVENING}, {{NAMED("month"), BARE(""), .kind = 99}}, 1, FLUENT_BAD_ARGUMENT, {0}},
+    {"an option that is a date", BYTES("en"), {EVENING}, {{NAMED("month"), BARE("2026-11-28"), .kind = FLUENT_DATETIME}}, 1, FLUENT_READ,
+     BYTES("11/28/2026")},
+    {"an option that is no date", BYTES("en"), {EVENING}, {{NAMED("month"), BARE("long"), .kind = FLUENT_DATETIME}}, 1, FLUENT_BAD_ARGUMENT, {0}},
     {"an option that isn't UTF-8", BYTES("en"), {EVENING}, {{NAMED("month"), TEXT("\xff")}}, 1, FLUENT_NOT_UTF8, {0}},
 };
 

@@ -44,7 +44,7 @@ static const struct Row ROWS[] = {
     {"an argument too many", BYTES("login"), BYTES("title"), {{NAMED("n"), TEXT(""), .kind = FLUENT_TEXT}}, 1, FLUENT_READ, BYTES("Log in"), {0}},
     {"three errors", BYTES("both"), NONE, {{0}}, 0, FLUENT_READ, BYTES("{$a} {$b} {both}"),
      BYTES("Unknown variable: $a\nUnknown variable: $b\nCyclical dependency detected\n")},
-    {"an unknown kind", BYTES("n"), NONE, {{NAMED("n"), TEXT(""), .kind = 6}}, 1, FLUENT_BAD_ARGUMENT, {0}, {0}},
+    {"an unknown kind", BYTES("n"), NONE, {{NAMED("n"), TEXT(""), .kind = 7}}, 1, FLUENT_BAD_ARGUMENT, {0}, {0}},
     {"no number", BYTES("n"), NONE, {{NAMED("n"), TEXT("1e3"), .kind = FLUENT_DECIMAL}}, 1, FLUENT_BAD_ARGUMENT, {0}, {0}},
     {"no number, and no message", BYTES("nothing"), NONE, {{NAMED("n"), TEXT(""), .kind = FLUENT_DECIMAL}}, 1, FLUENT_BAD_ARGUMENT, {0}, {0}},
     {"no message", BYTES("nothing"), NONE, {{0}}, 0, FLUENT_NO_MESSAGE, {0}, {0}},

@@ -28,6 +28,8 @@ static const struct Read READS[] = {
     {CALL("[],{}"), 0, 0, {0}, {0}},
     {CALL("[null],{\"n\":null}"), 1, 1, VALUE(FLUENT_NO_VALUE, ""), VALUE(FLUENT_NO_VALUE, "")},
     {CALL("[{\"number\":\"-1.50\"},\"x\",null],{\"n\":{\"number\":\"3\"}}"), 3, 1, VALUE(FLUENT_DECIMAL, "-1.50"), VALUE(FLUENT_DECIMAL, "3")},
+    {CALL("[{\"date\":\"2026-11-28\"}],{\"n\":{\"date\":\"0000-01-01T00:00:00Z\"}}"), 1, 1, VALUE(FLUENT_DATETIME, "2026-11-28"),
+     VALUE(FLUENT_DATETIME, "0000-01-01T00:00:00Z")},
     {CALL("[\"\"],{\"m\":\"\",\"n\":\"x\",\"nn\":null}"), 1, 3, VALUE(FLUENT_TEXT, ""), VALUE(FLUENT_TEXT, "x")},
     {CALL("[\"\\\"\\\\\\/\\b\\f\\n\\r\\t\"],{}"), 1, 0, VALUE(FLUENT_TEXT, "\"\\/\b\f\n\r\t"), {0}},
     {CALL("[\"\\u0000\\u001f\\u0041\\u00e9\\u20aC\\uFFFF\"],{}"), 1, 0, VALUE(FLUENT_TEXT, "\0\x1f" "A\xc3\xa9\xe2\x82\xac\xef\xbf\xbf"), {0}},
@@ -39,7 +41,7 @@ static const struct Read READS[] = {
 static const struct Bytes BAD[] = {
     BYTES("null"), BYTES("\"F\""), BYTES("[]"), BYTES("[\"F\"]"), BYTES("[\"F\",[]]"), BYTES("[F,[],{}]"), BYTES("[null,[],{}]"),
     CALL("{},[]"), CALL("[],[]"), CALL("[],{},[]"), CALL("[,],{}"), CALL("[\"a\",],{}"), CALL("[\"a\" \"b\"],{}"), CALL("[1],{}"),
-    CALL("[true],{}"), CALL("[nul],{}"), CALL("[nulll],{}"), CALL("[[]],{}"), CALL("[{}],{}"), CALL("[{\"number\":1}],{}"),
+    CALL("[true],{}"), CALL("[nul],{}"), CALL("[nulll],{}"), CALL("[[]],{}"), CALL("[{}],{}"), CALL("[{\"number\":1}],{}"), CALL("[{\"dates\":\"1\"}],{}"), CALL("[{date:\"1\"}],{}"),
     CALL("[{\"number\":null}],{}"), CALL("[{\"numbers\":\"1\"}],{}"), CALL("[{\"number\":\"1\",\"a\":\"b\"}],{}"), CALL("[],{\"a\"}"),
     CALL("[],{\"a\":}"), CALL("[],{\"a\":\"b\",}"), CALL("[],{a:\"b\"}"), CALL("[],{\"a\":{\"b\":\"c\"}}"), CALL("[\"\n\"],{}"),
     CALL("[\"\x1f\"],{}"), CALL("[\"\0\"],{}"), CALL("[\"\\x\"],{}"), CALL("[\"\\\0\"],{}"), CALL("[\"\\u\"],{}"),
@@ -110,7 +112,7 @@ static size_t next_chance(size_t limit) {
 
 /* Changed texts of calls, and bytes by chance: each is a call or isn't, and nothing past its end is read. */
 static void try_chance(struct Tally *tally, struct FluentCall *call) {
-    static const char alphabet[] = "[]{}\",:\\u/nulbert0dD89cfF\x01\xc3\xa9";
+    static const char alphabet[] = "[]{}\",:\\u/nulbertad0dD89cfF\x01\xc3\xa9";
     for (unsigned round = 0; round < 200000; round++) {
         uint8_t bytes[200];
         struct Bytes text = {bytes, 0};

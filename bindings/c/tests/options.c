@@ -69,6 +69,20 @@ static void try_depths(struct Tally *tally) {
     fluent_bundle_free(&bundle);
 }
 
+/* Each size but the struct's is refused. */
+static void try_sizes(struct Tally *tally) {
+    static const size_t far[] = {SIZE_MAX / 2, (SIZE_MAX / 2 + 1) | SIZE, SIZE_MAX - SIZE, SIZE_MAX};
+    struct FluentBundleOptions options = FLUENT_BUNDLE_OPTIONS;
+    struct FluentBundle bundle = {0};
+    bool is_right = true;
+    for (size_t each = 0; each < 65536 + sizeof far / sizeof *far; each++) {
+        options.size = each < 65536 ? each : far[each - 65536];
+        is_right &= fluent_bundle_new_with(&ONLY, 1, &options, &bundle) == (each == SIZE ? FLUENT_READ : FLUENT_BAD_ARGUMENT);
+    }
+    count_try(tally, "every size", is_right && bundle.held);
+    fluent_bundle_free(&bundle);
+}
+
 bool try_options(void) {
     static const struct FluentSource other = OTHER;
     static const struct Row not_utf8 = {"no UTF-8", {SIZE, TAG("de"), 0, false, false, false}, FLUENT_NOT_UTF8, {0}};
@@ -79,5 +93,6 @@ bool try_options(void) {
         count_try(&made, not_utf8.name, is_made(&other, &not_utf8, held));
     }
     try_depths(&made);
+    try_sizes(&made);
     return print_tally(&made);
 }

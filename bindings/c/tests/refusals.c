@@ -106,6 +106,18 @@ static uint32_t format_calling(struct Kept *kept) {
     fluent_bundle_free(&calling.bundle);
     return status;
 }
+/* Makes a bundle, and shows a date in it. */
+static uint32_t format_date(struct Kept *kept) {
+    static const struct FluentSource source = BYTES("due = { DATETIME($d, dateStyle: \"long\", timeStyle: \"short\") } { $d }\n");
+    static const struct FluentArgument date = {
+        .name = AT("d"), .name_len = 1, .text = AT("2026-11-28T20:15"), .text_len = 16, .kind = FLUENT_DATETIME};
+    struct FluentBundle bundle = {0};
+    uint32_t status = fluent_bundle_new(&source, 1, TEXT("de"), false, false, &bundle);
+    if (status == FLUENT_READ)
+        status = fluent_bundle_format(&bundle, TEXT("due"), TEXT(""), &date, 1, &kept->text, &kept->errors);
+    fluent_bundle_free(&bundle);
+    return status;
+}
 static uint32_t messages(struct Kept *kept) { return fluent_bundle_messages(&kept->bundle, &kept->text); }
 static uint32_t attributes(struct Kept *kept) { return fluent_bundle_attributes(&kept->bundle, TEXT("welcome"), &kept->text); }
 static uint32_t variables(struct Kept *kept) { return fluent_bundle_variables(&kept->bundle, TEXT("broken"), &kept->text); }
@@ -169,6 +181,7 @@ static const struct {
     {"fluent_bundle_variables", variables},
     {"fluent_bundle_format", format},
     {"fluent_bundle_format of many arguments", format_many},
+    {"fluent_bundle_format of a date", format_date},
     {"fluent_bundle_write", write_pattern},
     {"fluent_bundle_errors", report},
     {"fluent_bundle_has", has},

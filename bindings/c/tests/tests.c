@@ -47,7 +47,7 @@ int main(void) {
     bool (*const groups[])(void) = {
         try_counts,  try_texts, try_outlines,  try_answers, try_bundles, try_options,     try_listing,
         try_formats, try_calls, try_gathering, try_patterns, try_functions, try_languages, try_linting, try_tidying, try_occurrences,
-        try_dates, try_nodes, try_trees, try_refusals,
+        try_dates, try_dated, try_nodes, try_trees, try_refusals,
     };
     bool is_right = true;
     for (size_t i = 0; i < sizeof groups / sizeof *groups; i++)

@@ -66,6 +66,7 @@ bool try_nodes(void);
 bool try_tidying(void);
 bool try_trees(void);
 bool try_dates(void);
+bool try_dated(void);
 bool try_refusals(void);
 
 #endif

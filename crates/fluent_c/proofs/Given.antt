@@ -4,6 +4,7 @@ use Rattle.std.specs.List.Sorted.{IsPermutation}
 use Rattle.std.proofs.lemmas.List.{take_more}
 use Rattle.std.proofs.lemmas.List.Sorted.{Contains-permutation, IsPermutation-sym}
 use Rattle.core.specs.Result.{IsErrAnd}
+use Rattle.fluent_date.specs.declared.date_time.FluentDateTime.{FluentDateTime}
 use Rattle.fluent_grammar.specs.Words.{Text}
 use Rattle.fluent_value.proofs.Map.{set_last}
 use Rattle.fluent_value.specs.Args.{all_set, with_argument}
@@ -14,7 +15,7 @@ use Rattle.fluent_c.specs.declared.arguments.ArgumentRefusal.TheVariants.{Memory
 use Rattle.fluent_c.specs.declared.arguments.FluentArgument.{FluentArgument}
 
 -- one argument more
-pub set-next : (args : List (Text × Value (Unit {0}))) (given : List FluentArgument) (k : ℕ) (d : FluentArgument) → k < length given →
+pub set-next : (args : List (Text × Value FluentDateTime)) (given : List FluentArgument) (k : ℕ) (d : FluentArgument) → k < length given →
     args ≡ all_set [] (map pair_of (take k given)) →
     with_argument (pair_of (get_or given k d)).0 (pair_of (get_or given k d)).1 args ≡ all_set [] (map pair_of (take (k + 1) given))
 set-next args given k d inside below =

@@ -1,5 +1,5 @@
 -- Which locales are those of a program that has set none, by computing.
-use Rattle.std.proofs.Common.{◌≡◌, refl, codes, true, false, All, []}
+use Rattle.std.proofs.Common.{◌≡◌, refl, codes, true, false, []}
 use Rattle.fluent_c.specs.Locales.{has_rules, is_posix}
 
 alone : is_posix (codes "C") ≡ true

@@ -4,6 +4,8 @@ use Rattle.std.specs.List.{flat_map}
 use Rattle.std.specs.declared.alloc.Global.{Global}
 use denote.Ref.{Bor}
 use Rattle.fluent_answers.specs.Answers.{pattern_asked, reply_to}
+use Rattle.fluent_date_tables.specs.Tables.{Row}
+use Rattle.fluent_dates.specs.Lookup as dates
 use Rattle.fluent_grammar.specs.Tree.{Elements}
 use Rattle.fluent_grammar.specs.Words.{Text}
 use Rattle.fluent_ids.specs.Found.{message_in}
@@ -22,9 +24,10 @@ use Rattle.fluent_c.specs.declared.arguments.FluentArgument.{FluentArgument}
 use Rattle.fluent_c.specs.declared.text.FluentText.{FluentText}
 
 -- what a bundle is made of, if the locale has plural rules
-abbrev pub catalog_in : Option (List Text) → Settings → ℕ → Text → List Text → Option Catalog
-catalog_in functions settings stack locale sources =
-    option_map (λ plurals. record { settings = settings; plurals = plurals; sources = sources; stack = stack; functions = functions }) (plurals_in locale)
+abbrev pub catalog_in : Option (List Text) → Settings → Option Row → ℕ → Text → List Text → Option Catalog
+catalog_in functions settings dates stack locale sources = option_map
+    (λ plurals. record { settings = settings; plurals = plurals; sources = sources; stack = stack; dates = dates; functions = functions })
+    (plurals_in locale)
 
 -- the names of functions, if there are any
 abbrev pub names_in : Option (Vec (String Global) Global) → Option (List Text)
@@ -34,31 +37,35 @@ names_in functions = option_map (λ names. map string_bytes (vec_items names)) f
 abbrev pub settings_asked : Option (Bor Text) → Asking → Settings
 settings_asked tag asking = settings_of (option_and_then locale_for (option_copied tag)) asking.isolating asking.overriding
 
+-- what dates are written by: the locale of a tag, if there is one
+abbrev pub dates_asked : Option (Bor Text) → Option Row
+dates_asked tag = option_and_then dates.locale_for (option_copied tag)
+
 -- there is a bundle, of this catalog
 abbrev pub Keeps : FluentBundle → Catalog → Type 0
 Keeps bundle catalog = (bundle.held ≡ true) × (bundle.catalog ≡ catalog)
 
--- there is a bundle of these sources, for a locale that has plural rules, with these settings and so many bytes of the machine's stack,
--- whose messages may call functions of these names, if there are any
-abbrev pub KeepsWith : Option (List Text) → Settings → ℕ → Text → List FluentSource → FluentBundle → Type 0
-KeepsWith functions settings stack locale sources bundle =
-    IsSomeAnd (catalog_in functions settings stack locale (texts_of sources)) (Keeps bundle)
+-- there is a bundle of these sources, for a locale that has plural rules, with these settings, dates and so many bytes of the machine's
+-- stack, whose messages may call functions of these names, if there are any
+abbrev pub KeepsWith : Option (List Text) → Settings → Option Row → ℕ → Text → List FluentSource → FluentBundle → Type 0
+KeepsWith functions settings dates stack locale sources bundle =
+    IsSomeAnd (catalog_in functions settings dates stack locale (texts_of sources)) (Keeps bundle)
 
 -- the same by the code's values
 abbrev pub KeepsAsked : Option (Vec (String Global) Global) → Option (Bor Text) → Asking → Text → List FluentSource → FluentBundle → Type 0
-KeepsAsked functions tag asking = KeepsWith (names_in functions) (settings_asked tag asking) asking.stack.bytes
+KeepsAsked functions tag asking = KeepsWith (names_in functions) (settings_asked tag asking) (dates_asked tag) asking.stack.bytes
 
 -- the same without functions
-abbrev pub KeepsBy : Settings → ℕ → Text → List FluentSource → FluentBundle → Type 0
+abbrev pub KeepsBy : Settings → Option Row → ℕ → Text → List FluentSource → FluentBundle → Type 0
 KeepsBy = KeepsWith None
 
--- it writes numbers as the locale writes them, and plainly if CLDR doesn't say how
+-- it writes numbers and dates as the locale writes them, and plainly if CLDR doesn't say how
 abbrev pub KeepsSources : Text → Bool → Bool → ℕ → List FluentSource → FluentBundle → Type 0
-KeepsSources locale isolating overriding stack = KeepsBy (settings_of (locale_for locale) isolating overriding) stack locale
+KeepsSources locale isolating overriding stack = KeepsBy (settings_of (locale_for locale) isolating overriding) (dates.locale_for locale) stack locale
 
 -- it writes them plainly
 abbrev pub KeepsPlain : Text → Bool → Bool → ℕ → List FluentSource → FluentBundle → Type 0
-KeepsPlain locale isolating overriding stack = KeepsBy (settings_of None isolating overriding) stack locale
+KeepsPlain locale isolating overriding stack = KeepsBy (settings_of None isolating overriding) None stack locale
 
 -- how many bytes of the machine's stack a call takes that isn't told: 1.5 MB
 abbrev pub thread_stack : ℕ

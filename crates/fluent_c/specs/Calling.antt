@@ -2,6 +2,8 @@
 use Rattle.std.specs.Prelude.{◌≡◌, ◌≢◌, ◌⊎◌, ℕ, true, List, [], ◌∷◌, Option, Some, None, IsNone, IsSome, IsSomeAnd, map}
 use Rattle.fluent_answers.specs.Answers.{pattern_asked, reply_to}
 use Rattle.fluent_calls.specs.Functions.{IsUnanswered, Table}
+use Rattle.fluent_calls.specs.declared.callee.Callee.{Callee}
+use Rattle.fluent_date.specs.declared.date_time.FluentDateTime.{FluentDateTime}
 use Rattle.fluent_calls.specs.Gathering.{AreGathered}
 use Rattle.fluent_grammar.specs.Tree.{Elements, Message}
 use Rattle.fluent_grammar.specs.Words.{Text}
@@ -13,12 +15,11 @@ use Rattle.fluent_serve.specs.Frames.{Reply}
 use Rattle.fluent_serve.specs.Requests.{Request}
 use Rattle.fluent_value.specs.Args.{all_set}
 use Rattle.fluent_value.specs.Value.{Value}
-use Rattle.fluent_value.specs.declared.function.NoFunction.{NoFunction}
 use Rattle.fluent_c.specs.Answering.{AreUtf8, HoldsOther, plurals_in, texts_of}
 use Rattle.fluent_c.specs.Arguments.{AreRefusedFor, AreTaken, HoldsBad, pair_of}
-use Rattle.fluent_c.specs.Bundles.{AreNames, HasOther, HoldReply, KeepsNone, KeepsWith, attribute_in}
+use Rattle.fluent_c.specs.Bundles.{AreNames, HasOther, HoldReply, KeepsNone, KeepsWith, attribute_in, reply_in}
 use Rattle.fluent_c.specs.Made.{Holds}
-use Rattle.fluent_c.specs.Options.{settings_in, stack_in}
+use Rattle.fluent_c.specs.Options.{dates_in, settings_in, stack_in}
 use Rattle.fluent_c.specs.Statuses.{IsOneOf}
 use Rattle.fluent_c.specs.declared.TheConstants.{FLUENT_READ, FLUENT_NOT_UTF8, FLUENT_NO_MEMORY, FLUENT_UNKNOWN_LOCALE, FLUENT_NO_MESSAGE, FLUENT_NO_PATTERN, FLUENT_BAD_ARGUMENT, FLUENT_NO_BUNDLE, FLUENT_CALL, FLUENT_BUNDLE_OPTIONS_SIZE}
 use Rattle.fluent_c.specs.declared.answering.FluentSource.{FluentSource}
@@ -30,7 +31,7 @@ use Rattle.fluent_c.specs.declared.text.FluentText.{FluentText}
 
 -- there is a bundle of these sources, by these options, whose messages may call functions of these names
 abbrev pub KeepsCalling : List FluentSource → FluentBundleOptions → List FluentSource → FluentBundle → Type 0
-KeepsCalling functions options = KeepsWith (Some (texts_of functions)) (settings_in options) (stack_in options) options.locale.now
+KeepsCalling functions options = KeepsWith (Some (texts_of functions)) (settings_in options) (dates_in options) (stack_in options) options.locale.now
 
 -- what a call returns that makes such a bundle
 pub record MakesCalling (options : FluentBundleOptions) (sources functions : List FluentSource) (status : ℕ) : Type 0 where
@@ -46,19 +47,19 @@ abbrev pub answers_of : List FluentArgument → Table
 answers_of answers = all_set [] (map pair_of answers)
 
 -- where messages may call functions, what they are formatted in with these answers
-abbrev pub calling_in : FluentBundle → List FluentArgument → Option (Environment (Unit {0}) ℕ)
+abbrev pub calling_in : FluentBundle → List FluentArgument → Option (Environment FluentDateTime Callee)
 calling_in bundle answers = catalog_calling bundle.catalog (answers_of answers)
 
 -- what is asked for, in an environment with functions if there is one, and else in a plain one
-abbrev pub reply_by : Option (Environment (Unit {0}) ℕ) → Environment (Unit {0}) NoFunction → Request (Value (Unit {0})) → Option Reply
+abbrev pub reply_by : Option (Environment FluentDateTime Callee) → Environment FluentDateTime Callee → Request (Value FluentDateTime) → Option Reply
 reply_by None plain request = reply_to plain request
 reply_by (Some calling) plain request = reply_to calling request
 
-abbrev pub message_by : Option (Environment (Unit {0}) ℕ) → Environment (Unit {0}) NoFunction → Text → Option Message
+abbrev pub message_by : Option (Environment FluentDateTime Callee) → Environment FluentDateTime Callee → Text → Option Message
 message_by None plain id = message_in (plain.find id)
 message_by (Some calling) plain id = message_in (calling.find id)
 
-abbrev pub pattern_by : Option (Environment (Unit {0}) ℕ) → Environment (Unit {0}) NoFunction → Text → Option Text → Option Elements
+abbrev pub pattern_by : Option (Environment FluentDateTime Callee) → Environment FluentDateTime Callee → Text → Option Text → Option Elements
 pattern_by None plain id attribute = pattern_asked attribute (plain.find id)
 pattern_by (Some calling) plain id attribute = pattern_asked attribute (calling.find id)
 
@@ -85,14 +86,19 @@ abbrev pub MayCall : FluentBundle → Text → Text → List FluentArgument → 
 MayCall bundle id attribute answers = IsSome (calling_in bundle answers)
     × IsSome (pattern_by (calling_in bundle answers) (catalog_environment bundle.catalog) id (attribute_in attribute))
 
--- a text is that of a call that has no answer
-pub record HoldsMissing (answers : List FluentArgument) (made : FluentText) : Type 0 where
+-- where messages may call functions, this is the text of a call of one of them to which the table has no answer
+abbrev pub IsMissing : Option (Environment FluentDateTime Callee) → Table → Text → Type 0
+IsMissing None table call = ⊥
+IsMissing (Some calling) table call = IsUnanswered calling.find table call
+
+-- a text is that of such a call
+pub record HoldsMissing (bundle : FluentBundle) (answers : List FluentArgument) (made : FluentText) : Type 0 where
   pub call : Text
   pub held : Holds made call
-  pub missing : IsUnanswered (answers_of answers) call
+  pub missing : IsMissing (calling_in bundle answers) (answers_of answers) call
 
 -- lines of the calls that are gathered of what is asked for, and none where there are no functions
-abbrev pub AreCallsBy : Option (Environment (Unit {0}) ℕ) → Text → Option Text → List (Text × Value (Unit {0})) → Table → Text → Type 0
+abbrev pub AreCallsBy : Option (Environment FluentDateTime Callee) → Text → Option Text → List (Text × Value FluentDateTime) → Table → Text → Type 0
 AreCallsBy None id attribute args table calls = calls ≡ []
 AreCallsBy (Some calling) id attribute args table calls =
     IsSomeAnd (pattern_asked attribute (calling.find id)) (λ elements. AreGathered calling args table elements calls)
@@ -122,3 +128,9 @@ pub record Calls (bundle : FluentBundle) (id attribute : Text) (arguments answer
   pub names : status ≢ FLUENT_NOT_UTF8 → AreNames id attribute
   pub taken : IsOneOf status (FLUENT_READ ∷ FLUENT_NO_MESSAGE ∷ FLUENT_NO_PATTERN ∷ FLUENT_NO_BUNDLE ∷ FLUENT_CALL ∷ []) → AreTaken arguments × AreTaken answers
   pub held : IsOneOf status (FLUENT_READ ∷ FLUENT_NO_MESSAGE ∷ FLUENT_NO_PATTERN ∷ FLUENT_CALL ∷ []) → bundle.held ≡ true
+
+-- A bundle without functions replies alike, whatever the answers to calls are.
+abbrev pub PlainBundlesReplyAlike : Type 0
+PlainBundlesReplyAlike =
+    (bundle : FluentBundle) (id attribute : Text) (arguments answers : List FluentArgument) → bundle.catalog.functions ≡ None →
+    called_in bundle id attribute arguments answers ≡ reply_in bundle id attribute arguments

@@ -59,7 +59,7 @@ abbrev pub moment_given : FluentDate → Options → Result FluentDateTime DateE
 moment_given d options = dated options (date_of d.year d.month d.day) (time_given d) (offset_given d)
 
 -- the options that arguments set by their names; of one name the last counts
-abbrev pub table_given : List FluentArgument → List (Text × Value (Unit {0}))
+abbrev pub table_given : List FluentArgument → List (Text × Value FluentDateTime)
 table_given options = all_set [] (map pair_of options)
 
 abbrev pub options_given : List FluentArgument → Options

@@ -2,6 +2,8 @@
 use Rattle.std.specs.Prelude.{◌≡◌, ◌≢◌, ℕ, zero, suc, if◌then◌else◌, List, [], ◌∷◌, Option, None, String, Vec}
 use Rattle.std.specs.declared.alloc.Global.{Global}
 use Rattle.fluent_answers.specs.Sources.{Settings}
+use Rattle.fluent_date_tables.specs.Tables.{Row}
+use Rattle.fluent_dates.specs.Lookup as dates
 use Rattle.fluent_kept.specs.declared.handle.FluentBundle.{FluentBundle}
 use Rattle.fluent_numerals.specs.Lookup.{locale_for}
 use Rattle.fluent_c.specs.Answering.{AreUtf8, HoldsOther, plurals_in, settings_of}
@@ -16,6 +18,10 @@ abbrev pub settings_in : FluentBundleOptions → Settings
 settings_in options =
     settings_of (if options.plain_numbers then None else locale_for options.locale.now) options.isolating options.overriding
 
+-- what dates are written by: the locale, unless numbers are to be plain
+abbrev pub dates_in : FluentBundleOptions → Option Row
+dates_in options = if options.plain_numbers then None else dates.locale_for options.locale.now
+
 -- so many bytes, and those of a thread for none
 abbrev pub or_thread : ℕ → ℕ
 or_thread zero = thread_stack
@@ -27,11 +33,11 @@ stack_in options = or_thread options.stack
 
 -- there is a bundle of these sources, by these options, whose messages may call functions of these names, if there are any
 abbrev pub KeepsNamed : Option (Vec (String Global) Global) → FluentBundleOptions → List FluentSource → FluentBundle → Type 0
-KeepsNamed functions options = KeepsWith (names_in functions) (settings_in options) (stack_in options) options.locale.now
+KeepsNamed functions options = KeepsWith (names_in functions) (settings_in options) (dates_in options) (stack_in options) options.locale.now
 
 -- there is a bundle of these sources, by these options
 abbrev pub KeepsOptions : FluentBundleOptions → List FluentSource → FluentBundle → Type 0
-KeepsOptions options = KeepsBy (settings_in options) (stack_in options) options.locale.now
+KeepsOptions options = KeepsBy (settings_in options) (dates_in options) (stack_in options) options.locale.now
 
 -- what a call returns that makes a bundle of sources by options
 pub record MakesBundle (options : FluentBundleOptions) (sources : List FluentSource) (status : ℕ) : Type 0 where

@@ -1,6 +1,5 @@
 -- What C learns of a pattern whose text is written into its memory.
 use Rattle.std.specs.Prelude.{◌≡◌, ◌<◌, ◌≤◌, ◌==◌, ◌++◌, if◌then◌else◌, ℕ, List, [], ◌∷◌, Option, IsSomeAnd, All, drop, length}
-use Rattle.fluent_grammar.specs.Words.{Text}
 use Rattle.fluent_kept.specs.declared.handle.FluentBundle.{FluentBundle}
 use Rattle.fluent_serve.specs.Frames.{Reply}
 use Rattle.fluent_c.specs.Arguments.{HasTexts}

@@ -1,5 +1,5 @@
 -- The source that is written of a tree, which is given as JSON, for C.
-use Rattle.std.specs.Prelude.{◌≡◌, ◌≢◌, ℕ, Bool, List, [], ◌∷◌, None, IsUtf8}
+use Rattle.std.specs.Prelude.{◌≡◌, ◌≢◌, ℕ, Bool, [], ◌∷◌, None, IsUtf8}
 use Rattle.serde_json.specs.Read.{read as read_text}
 use Rattle.fluent_grammar.specs.Words.{Text}
 use Rattle.fluent_kept.specs.GivenTrees.{IsOfNoTree, IsWrittenOf}

@@ -2,21 +2,24 @@
 
 ghost use Rattle.std.specs.Prelude.{◌≡◌, [], IfErr, IfOk, OnOk, map};
 ghost use Rattle.std.specs.List.Sorted.{IsPermutation, IsSortedByKey, IsStableByKey};
-ghost use Rattle.fluent_run.specs.DeskView.{arguments_view};
+ghost use Rattle.fluent_run.specs.Dated.{dated_view};
 ghost use Rattle.fluent_value.specs.Args.{all_set, order};
-ghost use Rattle.fluent_c.specs.Arguments.{AreRefusedFor, AreTaken, IsRefusedFor, IsTaken, float_given, number_given, pair_of, value_given, value_seen, with_given};
+ghost use Rattle.fluent_c.specs.Arguments.{AreRefusedFor, AreTaken, IsRefusedFor, IsTaken, date_given, float_given, number_given, pair_of, value_given, value_seen, with_given};
 ghost use Rattle.fluent_c.specs.declared.arguments.ArgumentRefusal.TheVariants.{Memory};
 
 use crate::utf8::text_in;
 use crate::{
-    FLUENT_DECIMAL, FLUENT_FLOAT, FLUENT_INTEGER, FLUENT_NO_VALUE, FLUENT_TEXT, FLUENT_UNSIGNED,
+    FLUENT_DATETIME, FLUENT_DECIMAL, FLUENT_FLOAT, FLUENT_INTEGER, FLUENT_NO_VALUE, FLUENT_TEXT,
+    FLUENT_UNSIGNED,
 };
+use fluent_date::FluentDateTime;
+use fluent_dates::DateTimeValue;
 use fluent_number::{FluentNumber, FluentNumberOptions};
-use fluent_value::{FluentArgs, FluentValue, NoCustom};
+use fluent_value::{FluentArgs, FluentValue};
 use std::alloc::{AllocError, Global};
 use std::borrow::CowStr;
 
-/// An argument: its name, and a text, a decimal or an integer, as its kind says.
+/// An argument: its name, and a text, a number or a date, as its kind says.
 ///
 /// ```c
 /// return (struct FluentArgument){
@@ -26,12 +29,13 @@ use std::borrow::CowStr;
 #[derive(Clone, Copy)]
 pub struct FluentArgument<'a> {
     pub name: &'a [u8],
-    /// The text, also if it looks like a number, or the decimal as it is written.
+    /// The text, also if it looks like a number, the decimal as it is written, or the date as ISO
+    /// 8601 has it.
     pub text: &'a [u8],
     pub integer: i64,
     pub unsigned: u64,
     /// [`FLUENT_TEXT`], [`FLUENT_DECIMAL`], [`FLUENT_INTEGER`], [`FLUENT_UNSIGNED`],
-    /// [`FLUENT_NO_VALUE`] or [`FLUENT_FLOAT`].
+    /// [`FLUENT_NO_VALUE`], [`FLUENT_FLOAT`] or [`FLUENT_DATETIME`].
     pub kind: u32,
 }
 
@@ -42,7 +46,7 @@ pub(crate) enum ArgumentRefusal {
     Memory = 1,
     /// A name or a text isn't UTF-8.
     NotUtf8 = 2,
-    /// A kind isn't known, or a decimal is no number.
+    /// A kind isn't known, a decimal is no number, or a text is no date.
     NoValue = 3,
 }
 
@@ -58,7 +62,7 @@ impl From<AllocError> for ArgumentRefusal {
 pub(crate) fn value_of<'a>(
     argument: &FluentArgument<'a>,
     text: &'a str,
-) -> Option<FluentValue<'a, NoCustom>>
+) -> Option<FluentValue<'a, DateTimeValue>>
     requires { text.now ≡ argument.now.text.now }
     ensures { value_seen result ≡ value_given argument.now }
 {
@@ -80,11 +84,14 @@ pub(crate) fn value_of<'a>(
     if argument.kind == FLUENT_FLOAT {
         return float_of(text);
     }
+    if argument.kind == FLUENT_DATETIME {
+        return date_of(text);
+    }
     None
 }
 
 /// The number that a text is, if it is one.
-fn number_of<'a>(text: &'a str) -> Option<FluentValue<'a, NoCustom>>
+fn number_of<'a>(text: &'a str) -> Option<FluentValue<'a, DateTimeValue>>
     ensures { value_seen result ≡ number_given text.now }
 {
     match text.parse::<FluentNumber>() {
@@ -94,7 +101,7 @@ fn number_of<'a>(text: &'a str) -> Option<FluentValue<'a, NoCustom>>
 }
 
 /// The number that a text is, if it is one. Its digits don't say how many are shown.
-fn float_of<'a>(text: &'a str) -> Option<FluentValue<'a, NoCustom>>
+fn float_of<'a>(text: &'a str) -> Option<FluentValue<'a, DateTimeValue>>
     ensures { value_seen result ≡ float_given text.now }
 {
     match text.parse::<FluentNumber>() {
@@ -106,6 +113,16 @@ fn float_of<'a>(text: &'a str) -> Option<FluentValue<'a, NoCustom>>
     }
 }
 
+/// The date that a text is, if it is one.
+fn date_of<'a>(text: &'a str) -> Option<FluentValue<'a, DateTimeValue>>
+    ensures { value_seen result ≡ date_given text.now }
+{
+    match text.parse::<FluentDateTime>() {
+        Ok(date) => Some(FluentValue::Custom(DateTimeValue(date))),
+        Err(_) => None,
+    }
+}
+
 /// Sets an argument.
 ///
 /// # Errors
@@ -113,11 +130,11 @@ fn float_of<'a>(text: &'a str) -> Option<FluentValue<'a, NoCustom>>
 /// if it has no value, and [`ArgumentRefusal::Memory`] if memory runs out; the arguments are
 /// unchanged.
 fn set<'a>(
-    arguments: &mut FluentArgs<'a, NoCustom>,
+    arguments: &mut FluentArgs<'a, DateTimeValue>,
     argument: &FluentArgument<'a>,
 ) -> Result<(), ArgumentRefusal>
-    ensures set { OnOk result (arguments_view arguments.new
-        ≡ with_given argument.now (arguments_view arguments.old)) }
+    ensures set { OnOk result (dated_view arguments.new
+        ≡ with_given argument.now (dated_view arguments.old)) }
     ensures taken { OnOk result (IsTaken argument.now) }
     ensures refused { IfErr result (IsRefusedFor argument.now) }
 {
@@ -143,8 +160,8 @@ fn set<'a>(
 fn set_all<'a>(
     alloc: Global,
     given: &[FluentArgument<'a>],
-) -> Result<FluentArgs<'a, NoCustom>, ArgumentRefusal>
-    ensures set { IfOk result (λ arguments. arguments_view arguments
+) -> Result<FluentArgs<'a, DateTimeValue>, ArgumentRefusal>
+    ensures set { IfOk result (λ arguments. dated_view arguments
         ≡ all_set [] (map pair_of given.now)) }
     ensures taken { OnOk result (AreTaken given.now) }
     ensures refused { IfErr result (AreRefusedFor given.now) }
@@ -186,8 +203,8 @@ pub(crate) const FEW: usize = 16;
 pub(crate) fn arguments_of<'a>(
     alloc: Global,
     given: &[FluentArgument<'a>],
-) -> Result<FluentArgs<'a, NoCustom>, ArgumentRefusal>
-    ensures set { IfOk result (λ arguments. arguments_view arguments
+) -> Result<FluentArgs<'a, DateTimeValue>, ArgumentRefusal>
+    ensures set { IfOk result (λ arguments. dated_view arguments
         ≡ all_set [] (map pair_of given.now)) }
     ensures taken { OnOk result (AreTaken given.now) }
     ensures refused { IfErr result (AreRefusedFor given.now) }

@@ -37,8 +37,9 @@ fn copied_names(alloc: Global, functions: &[FluentSource<'_>]) -> Result<Vec<Str
 /// As [`fluent_bundle_new_with`](crate::fluent_bundle_new_with), for messages that call functions
 /// of these names: they are formatted by [`fluent_bundle_call`].
 ///
-/// A name that is the id of a message or a term of the sources, or `NUMBER`, is no function. The
-/// names are copied. The call returns [`FLUENT_NOT_UTF8`], too, if a name isn't UTF-8.
+/// A name that is the id of a message or a term of the sources, or `NUMBER`, is no function. A
+/// function `DATETIME` takes the place of the one that is there. The names are copied. The call
+/// returns [`FLUENT_NOT_UTF8`], too, if a name isn't UTF-8.
 #[unsafe(no_mangle)]
 pub extern "C" fn fluent_bundle_new_calling(
     alloc: Global,
@@ -74,7 +75,8 @@ pub extern "C" fn fluent_bundle_new_calling(
 ///
 /// Otherwise it returns what [`fluent_bundle_format`](crate::fluent_bundle_format) does, and `call`
 /// holds what it held; it is [`FLUENT_NOT_UTF8`] or [`FLUENT_BAD_ARGUMENT`], too, for an answer
-/// that isn't taken. Of a bundle without functions it is the same call, whatever the answers are.
+/// that isn't taken. Of a bundle that another call than [`fluent_bundle_new_calling`] made it is
+/// the same call, whatever the answers are.
 #[unsafe(no_mangle)]
 pub extern "C" fn fluent_bundle_call<'a>(
     alloc: Global,
@@ -90,7 +92,7 @@ pub extern "C" fn fluent_bundle_call<'a>(
     ensures status { Calls bundle.old id.now attribute.now arguments.now answers.now result }
     ensures answered { result ≡ FLUENT_READ
         → Gives bundle.old id.now attribute.now arguments.now answers.now text.new errors.new }
-    ensures missing { result ≡ FLUENT_CALL → HoldsMissing answers.now call.new }
+    ensures missing { result ≡ FLUENT_CALL → HoldsMissing bundle.old answers.now call.new }
     ensures kept { KeepsSame bundle.new bundle.old }
     ensures unchanged { result ≢ FLUENT_READ
         → HoldsSame text.new text.old × HoldsSame errors.new errors.old }

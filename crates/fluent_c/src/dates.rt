@@ -137,8 +137,8 @@ fn written(
 /// The call returns [`FLUENT_READ`]: then `made` holds the text, and what it held before is freed.
 /// It returns [`FLUENT_UNKNOWN_LOCALE`] if CLDR doesn't know the language of the locale,
 /// [`FLUENT_BAD_ARGUMENT`] if the numbers make no date, no time or no offset, or if an option's
-/// kind isn't known or its decimal is no number, [`FLUENT_NOT_UTF8`] if an option's name or text
-/// isn't UTF-8, or [`FLUENT_NO_MEMORY`], and `made` is unchanged then.
+/// kind isn't known or its text is no decimal or no date, [`FLUENT_NOT_UTF8`] if an option's name
+/// or text isn't UTF-8, or [`FLUENT_NO_MEMORY`], and `made` is unchanged then.
 #[unsafe(no_mangle)]
 pub extern "C" fn fluent_write_date(
     alloc: Global,

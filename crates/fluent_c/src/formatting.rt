@@ -69,10 +69,11 @@ pub(crate) fn hand_out(
 /// into it: an answer allocates nothing for its text if that suffices.
 ///
 /// It returns [`FLUENT_NOT_UTF8`] if the id, a name or a text isn't UTF-8, [`FLUENT_BAD_ARGUMENT`]
-/// if an argument's kind isn't known or its decimal is no number, [`FLUENT_NO_MESSAGE`] if there is
-/// no message of the id, [`FLUENT_NO_PATTERN`] if the message lacks the value or the attribute,
-/// [`FLUENT_NO_BUNDLE`] if there is no bundle, and [`FLUENT_NO_MEMORY`] otherwise: then both texts
-/// hold what they held, at the same address. The bundle is as it was in each case.
+/// if an argument's kind isn't known, or its text is no decimal or no date,
+/// [`FLUENT_NO_MESSAGE`] if there is no message of the id, [`FLUENT_NO_PATTERN`] if the message
+/// lacks the value or the attribute, [`FLUENT_NO_BUNDLE`] if there is no bundle, and
+/// [`FLUENT_NO_MEMORY`] otherwise: then both texts hold what they held, at the same address. The
+/// bundle is as it was in each case.
 #[unsafe(no_mangle)]
 pub extern "C" fn fluent_bundle_format<'a>(
     alloc: Global,

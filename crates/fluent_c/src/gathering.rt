@@ -29,7 +29,8 @@ use std::alloc::Global;
 /// met has an answer.
 ///
 /// The call returns [`FLUENT_READ`], or else what [`fluent_bundle_call`](crate::fluent_bundle_call)
-/// does; then `calls` holds what it held. Of a bundle without functions the text is empty.
+/// does; then `calls` holds what it held. Of a bundle that another call than
+/// [`fluent_bundle_new_calling`](crate::fluent_bundle_new_calling) made the text is empty.
 #[unsafe(no_mangle)]
 pub extern "C" fn fluent_bundle_calls<'a>(
     alloc: Global,

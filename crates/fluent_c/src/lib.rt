@@ -25,6 +25,7 @@ mod filling;
 mod formatting;
 mod gathering;
 mod languages;
+mod laws;
 mod linting;
 mod listing;
 mod locales;
@@ -58,6 +59,7 @@ pub use fluent_kept::FluentBundle;
 pub use formatting::fluent_bundle_format;
 pub use gathering::fluent_bundle_calls;
 pub use languages::fluent_negotiate;
+pub use laws::plain_bundles_reply_alike;
 pub use linting::{FluentLintOptions, fluent_lint};
 pub use listing::{fluent_bundle_attributes, fluent_bundle_messages};
 pub use locales::fluent_has_plural_rules;
@@ -90,9 +92,9 @@ pub const FLUENT_UNKNOWN_LOCALE: u32 = 3;
 pub const FLUENT_NO_MESSAGE: u32 = 4;
 /// What a call returns that asks for a value or an attribute that the message doesn't have.
 pub const FLUENT_NO_PATTERN: u32 = 5;
-/// What a call returns that has an argument whose kind isn't known, or whose decimal is no number,
-/// that names no strategy, that has options of another size than [`FLUENT_BUNDLE_OPTIONS_SIZE`], or
-/// whose numbers make no date.
+/// What a call returns that has an argument whose kind isn't known, whose decimal is no number, or
+/// whose text is no date, that names no strategy, that has options of another size than
+/// [`FLUENT_BUNDLE_OPTIONS_SIZE`], or whose numbers make no date.
 pub const FLUENT_BAD_ARGUMENT: u32 = 6;
 /// What a call returns that asks a bundle that isn't there.
 pub const FLUENT_NO_BUNDLE: u32 = 7;
@@ -128,6 +130,9 @@ pub const FLUENT_UNSIGNED: u32 = 3;
 pub const FLUENT_NO_VALUE: u32 = 4;
 /// The kind of an argument that is a float: a decimal whose digits don't say how many are shown.
 pub const FLUENT_FLOAT: u32 = 5;
+/// The kind of an argument that is a date, with its time and the offset of its clock if it has
+/// them: a text as ISO 8601 has it, such as `2026-11-28` or `2026-11-28T20:15:00+01:00`.
+pub const FLUENT_DATETIME: u32 = 6;
 /// The strategy that finds all languages that suit any of the user's.
 pub const FLUENT_FILTERING: u32 = 0;
 /// The strategy that finds the best language for each of the user's.

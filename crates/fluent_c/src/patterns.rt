@@ -147,7 +147,8 @@ fn write_out(
 /// The text, its errors and the status are those of
 /// [`fluent_bundle_call`](crate::fluent_bundle_call) without answers, whatever the number is: a
 /// number of another bundle, or of one that was made anew, is passed over, and the message is
-/// looked up by its id. So for a bundle without functions they are those of
+/// looked up by its id. So for a bundle that another call than
+/// [`fluent_bundle_new_calling`](crate::fluent_bundle_new_calling) made they are those of
 /// [`fluent_bundle_format`](crate::fluent_bundle_format). If [`FLUENT_CALL`] is returned, the
 /// pattern calls a function, and [`fluent_bundle_call`](crate::fluent_bundle_call) says which.
 ///

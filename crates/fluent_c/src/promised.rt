@@ -1,12 +1,13 @@
 //! Arguments whose names and texts are promised to be UTF-8.
 
 ghost use Rattle.std.specs.Prelude.{◌≡◌, [], All, IfErr, IfOk, OnOk, map};
-ghost use Rattle.fluent_run.specs.DeskView.{arguments_view};
+ghost use Rattle.fluent_run.specs.Dated.{dated_view};
 ghost use Rattle.fluent_value.specs.Args.{all_set};
 ghost use Rattle.fluent_c.specs.Arguments.{AreRefusedFor, AreTaken, HasTexts, IsRefusedFor, IsTaken, pair_of, with_given};
 
 use crate::arguments::{ArgumentRefusal, FEW, FluentArgument, arguments_of, value_of};
-use fluent_value::{FluentArgs, NoCustom};
+use fluent_dates::DateTimeValue;
+use fluent_value::FluentArgs;
 use std::alloc::Global;
 use std::borrow::CowStr;
 use std::str::from_utf8_unchecked;
@@ -17,12 +18,12 @@ use std::str::from_utf8_unchecked;
 /// [`ArgumentRefusal::NoValue`] if it has no value, and [`ArgumentRefusal::Memory`] if memory runs
 /// out; the arguments are unchanged.
 fn set_promised<'a>(
-    arguments: &mut FluentArgs<'a, NoCustom>,
+    arguments: &mut FluentArgs<'a, DateTimeValue>,
     argument: &FluentArgument<'a>,
 ) -> Result<(), ArgumentRefusal>
     requires { HasTexts argument.now }
-    ensures set { OnOk result (arguments_view arguments.new
-        ≡ with_given argument.now (arguments_view arguments.old)) }
+    ensures set { OnOk result (dated_view arguments.new
+        ≡ with_given argument.now (dated_view arguments.old)) }
     ensures taken { OnOk result (IsTaken argument.now) }
     ensures refused { IfErr result (IsRefusedFor argument.now) }
 {
@@ -45,9 +46,9 @@ fn set_promised<'a>(
 pub(crate) fn promised_arguments<'a>(
     alloc: Global,
     given: &[FluentArgument<'a>],
-) -> Result<FluentArgs<'a, NoCustom>, ArgumentRefusal>
+) -> Result<FluentArgs<'a, DateTimeValue>, ArgumentRefusal>
     requires { All HasTexts given.now }
-    ensures set { IfOk result (λ arguments. arguments_view arguments
+    ensures set { IfOk result (λ arguments. dated_view arguments
         ≡ all_set [] (map pair_of given.now)) }
     ensures taken { OnOk result (AreTaken given.now) }
     ensures refused { IfErr result (AreRefusedFor given.now) }

@@ -34,13 +34,15 @@ use Rattle.fluent_serve.specs.Frames.{ended as frame}
 use Rattle.fluent_value.specs.Args.{all_set, argument}
 use Rattle.fluent_value.specs.Value.{Value}
 use Rattle.fluent_value.specs.declared.custom.FluentType.{Ghosts as Custom}
-use Rattle.fluent_value.specs.declared.custom.NoCustom.{NoCustom}
 use Rattle.fluent_value.specs.declared.value.FluentValue.{FluentValue}
 use Rattle.fluent_value.specs.declared.scope.ValueScope.{Ghosts as Scope}
 use Rattle.fluent_calls.specs.CallValues.{plain_all}
 use Rattle.fluent_calls.specs.Functions.{IsUnanswered, Table}
 use Rattle.fluent_calls.specs.GatheringView.{arguments_in, left_by}
 use Rattle.fluent_calls.specs.Gathering.{AreGathered, Gathers, a_text, all_known, all_lacking, ended, is_plain, is_plain_expression, lacking, literals, no_more, plain, resolved, too_many, unanswered, unanswered_if, with_value}
+use Rattle.fluent_date.specs.declared.date_time.FluentDateTime.{FluentDateTime}
+use Rattle.fluent_dates.specs.declared.value.DateTimeValue.{DateTimeValue}
+use Rattle.fluent_calls.specs.declared.callee.Callee.{Callee}
 
 -- lines of some calls, and of some more
 pub more-lines : (text old : Text) (before calls : List Text) → text ≡ old ++ lines calls → old ≡ lines before → text ≡ lines (before ++ calls)
@@ -60,26 +62,26 @@ pub line-added : (text old call : Text) → text ≡ old ++ frame call → text 
 line-added text old call is = is ∙ ap (λ x. old ++ x) (sym (append-nil (frame call)))
 
 -- values of the code, if they are known
-pub these-known : {given : Option (Vec (FluentValue NoCustom))} {positional : Vec (FluentValue NoCustom)} {items : List (FluentValue NoCustom)} {all : Option (List (Value (Unit {0})))} →
-    option_map (λ (vs : Vec (FluentValue NoCustom)). plain_all vs.items) given ≡ all → given ≡ Some positional → items ≡ positional.items → Some (plain_all items) ≡ all
-these-known known is same = ap (λ x. Some (plain_all x)) same ∙ ap (option_map (λ (vs : Vec (FluentValue NoCustom)). plain_all vs.items)) (sym is) ∙ known
+pub these-known : {given : Option (Vec (FluentValue DateTimeValue))} {positional : Vec (FluentValue DateTimeValue)} {items : List (FluentValue DateTimeValue)} {all : Option (List (Value FluentDateTime))} →
+    option_map (λ (vs : Vec (FluentValue DateTimeValue)). plain_all vs.items) given ≡ all → given ≡ Some positional → items ≡ positional.items → Some (plain_all items) ≡ all
+these-known known is same = ap (λ x. Some (plain_all x)) same ∙ ap (option_map (λ (vs : Vec (FluentValue DateTimeValue)). plain_all vs.items)) (sym is) ∙ known
 
-pub none-known : {given : Option (Vec (FluentValue NoCustom))} {all : Option (List (Value (Unit {0})))} → option_map (λ (vs : Vec (FluentValue NoCustom)). plain_all vs.items) given ≡ all → given ≡ None → None ≡ all
-none-known known is = ap (option_map (λ (vs : Vec (FluentValue NoCustom)). plain_all vs.items)) (sym is) ∙ known
+pub none-known : {given : Option (Vec (FluentValue DateTimeValue))} {all : Option (List (Value FluentDateTime))} → option_map (λ (vs : Vec (FluentValue DateTimeValue)). plain_all vs.items) given ≡ all → given ≡ None → None ≡ all
+none-known known is = ap (option_map (λ (vs : Vec (FluentValue DateTimeValue)). plain_all vs.items)) (sym is) ∙ known
 
 -- The calls in a call that lack answers: those among its arguments, and the call itself if these are known.
-module _ (find : Text → Option (Meaning ℕ)) (args : List (Text × Value (Unit {0}))) (table : Table) (id : Text) (a : CallArguments (Bor Text)) where
+module _ (find : Text → Option (Meaning Callee)) (args : List (Text × Value FluentDateTime)) (table : Table) (id : Text) (a : CallArguments (Bor Text)) where
   abbrev call_lines : Text → Text
   call_lines old = old ++ lines (lacking find args table (t.function_reference id (arguments_of a)))
 
   -- with these values of positional arguments
-  abbrev lines_with : Text → Option (List (Value (Unit {0}))) → Text
+  abbrev lines_with : Text → Option (List (Value FluentDateTime)) → Text
   lines_with old values = old ++ lines (all_lacking find args table (positional_in a) ++ unanswered_if find args table id (all_set [] (literals (nameds_in a))) values)
 
   as-call : (old : Text) → lines_with old (all_known find args table (positional_in a)) ≡ call_lines old
   as-call old = ap (λ x. old ++ lines (lacking find args table (t.function_reference id x))) (sym (arguments-in a))
 
-  pub lines-of-known : (text mid old : Text) {values : List (Value (Unit {0}))} {pairs : List (Text × Value (Unit {0}))} → Some values ≡ all_known find args table (positional_in a) → pairs ≡ all_set [] (literals (nameds_in a)) →
+  pub lines-of-known : (text mid old : Text) {values : List (Value FluentDateTime)} {pairs : List (Text × Value FluentDateTime)} → Some values ≡ all_known find args table (positional_in a) → pairs ≡ all_set [] (literals (nameds_in a)) →
       mid ≡ old ++ lines (all_lacking find args table (positional_in a)) → text ≡ mid ++ lines (unanswered find args table id values pairs (find id)) → text ≡ call_lines old
   lines-of-known text mid old {values = values} {pairs = pairs} known named was is =
       added text mid old (all_lacking find args table (positional_in a)) (unanswered find args table id values pairs (find id)) is was
@@ -122,7 +124,7 @@ module _ (items : List (PatternElement (Bor Text))) (i : ℕ) where
   pub none-left : length items ≤ i → left_at items i ≡ t.no_elements
   none-left over = ap (λ xs. elements_of (map element_of xs)) (drop_all i items over)
 
-module _ (env : Environment (Unit {0}) ℕ) (args : List (Text × Value (Unit {0}))) (table : Table) (whole : Elements) where
+module _ (env : Environment FluentDateTime Callee) (args : List (Text × Value FluentDateTime)) (table : Table) (whole : Elements) where
   -- lines of these calls were gathered before the elements that are left
   pub record SoFar (left : Elements) (now : Budget) (text : Text) : Type 0 where
     pub calls : List Text
@@ -179,7 +181,7 @@ module _ (env : Environment (Unit {0}) ℕ) (args : List (Text × Value (Unit {0
       (es : Elements) (rest : List Text) → Gathers env args table whole es next rest → Gathers env args table whole (t.placeable e es) now rest
   goes-resolved other opened same es rest h = resolved (sym opened) other (subst (λ c. Gathers env args table whole es c rest) same h)
 
-  pub ends-at : {e : Expression} {now : Budget} {call : Text} → is_plain_expression e ≡ false → true ≡ (opens now).value → IsUnanswered table call →
+  pub ends-at : {e : Expression} {now : Budget} {call : Text} → is_plain_expression e ≡ false → true ≡ (opens now).value → IsUnanswered env.find table call →
       (es : Elements) → Gathers env args table whole (t.placeable e es) now (call ∷ [])
   ends-at other opened is es = ended (sym opened) other is
 
@@ -188,8 +190,8 @@ module _ (env : Environment (Unit {0}) ℕ) (args : List (Text × Value (Unit {0
   ends-shut closed es = too_many (sym closed)
 
 -- What resolving the inside of a placeable leaves, if no pattern is being written.
-module _ {E : Type 0} {c : Custom NoCustom (Unit {0})} {e : Context E NoCustom ℕ (Unit {0})} {v : Scope E NoCustom (Unit {0})} (place : Surroundings NoCustom ℕ E (Unit {0}) c e v) (progress : Progress) where
-  abbrev surrounded : Option (List (Text × Value (Unit {0}))) → List Elements → s.Surroundings (Unit {0})
+module _ {E : Type 0} {c : Custom DateTimeValue FluentDateTime} {e : Context E DateTimeValue Callee FluentDateTime} {v : Scope E DateTimeValue FluentDateTime} (place : Surroundings DateTimeValue Callee E FluentDateTime c e v) (progress : Progress) where
+  abbrev surrounded : Option (List (Text × Value FluentDateTime)) → List Elements → s.Surroundings FluentDateTime
   surrounded locals path = record { arguments = arguments_in place; locals = locals; path = path }
 
   at-outset : place.locals ≡ None → path_of progress ≡ [] → place_view place progress ≡ outset (arguments_in place)
@@ -203,22 +205,22 @@ module _ {E : Type 0} {c : Custom NoCustom (Unit {0})} {e : Context E NoCustom �
       is ∙ ap (λ p. (write p (state progress).budget).budget) (at-outset outside here) ∙ ap (λ b. (write (outset (arguments_in place)) b).budget) was
 
 -- the values of arguments, if all so far are known, before those that are left
-abbrev pub joined : Bool → List (Value (Unit {0})) → Option (List (Value (Unit {0}))) → Option (List (Value (Unit {0})))
+abbrev pub joined : Bool → List (Value FluentDateTime) → Option (List (Value FluentDateTime)) → Option (List (Value FluentDateTime))
 joined true values rest = option_map (λ vs. values ++ vs) rest
 joined false values rest = None
 
-pub joined-first : (rest : Option (List (Value (Unit {0})))) → joined true [] rest ≡ rest
+pub joined-first : (rest : Option (List (Value FluentDateTime))) → joined true [] rest ≡ rest
 joined-first None = refl
 joined-first (Some vs) = refl
 
-pub joined-more : (known : Bool) (values : List (Value (Unit {0}))) (value : Value (Unit {0})) (rest : Option (List (Value (Unit {0})))) → joined known (values ++ value ∷ []) rest ≡ joined known values (with_value (Some value) rest)
+pub joined-more : (known : Bool) (values : List (Value FluentDateTime)) (value : Value FluentDateTime) (rest : Option (List (Value FluentDateTime))) → joined known (values ++ value ∷ []) rest ≡ joined known values (with_value (Some value) rest)
 joined-more true values value None = refl
 joined-more true values value (Some vs) = ap Some (append_assoc values (value ∷ []) vs)
 joined-more false values value rest = refl
 
-pub joined-lost : (known : Bool) (values : List (Value (Unit {0}))) (rest : Option (List (Value (Unit {0})))) → joined false values rest ≡ joined known values (with_value None rest)
+pub joined-lost : (known : Bool) (values : List (Value FluentDateTime)) (rest : Option (List (Value FluentDateTime))) → joined false values rest ≡ joined known values (with_value None rest)
 joined-lost true values rest = refl
 joined-lost false values rest = refl
 
-pub joined-all : (values : List (Value (Unit {0}))) → joined true values (Some []) ≡ Some values
+pub joined-all : (values : List (Value FluentDateTime)) → joined true values (Some []) ≡ Some values
 joined-all values = ap Some (append-nil values)

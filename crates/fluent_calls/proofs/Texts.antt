@@ -12,6 +12,7 @@ use Rattle.serde_json.specs.Written.{has_float, items_have_float, members_have_f
 use Rattle.fluent_grammar.specs.Words.{Text}
 use Rattle.fluent_value.specs.Value.{Value, text, number, custom, none, error}
 use Rattle.fluent_calls.specs.Calls.{value_data, all_put, call_data}
+use Rattle.fluent_date.specs.declared.date_time.FluentDateTime.{FluentDateTime}
 
 map_after-map : {A B C : Type 0} (f : B → C) (g : A → B) (xs : List A) → map (λ x. f (g x)) xs ≡ map f (map g xs)
 map_after-map f g [] = refl
@@ -34,14 +35,14 @@ made-all view json plain made xs k end below = ap items_of (below ∙ ap (map (�
 neither : {a b : Bool} → a ≡ false → b ≡ false → (a || b) ≡ false
 neither ea eb = cc
 
-value_none : (v : Value (Unit {0})) → has_float (value_data v) ≡ false
+value_none : (v : Value FluentDateTime) → has_float (value_data v) ≡ false
 value_none (text s) = refl
 value_none (number n) = refl
 value_none (custom c) = refl
 value_none none = refl
 value_none error = refl
 
-values_none : (vs : List (Value (Unit {0}))) → items_have_float (items_of (map value_data vs)) ≡ false
+values_none : (vs : List (Value FluentDateTime)) → items_have_float (items_of (map value_data vs)) ≡ false
 values_none [] = refl
 values_none (v ∷ vs) = neither (value_none v) (values_none vs)
 
@@ -64,11 +65,11 @@ put_none k d (member l e ms) ed em =
     by_order (slice_cmp nat_cmp k l) (member k d (member l e ms)) (member l d ms) (member l e (put k d ms))
     (neither ed em) (neither ed (right (has_float e) (members_have_float ms) em)) (neither (left (has_float e) (members_have_float ms) em) (put_none k d ms ed (right (has_float e) (members_have_float ms) em)))
 
-all_put_none : (ms : Members) (pairs : List (Text × Value (Unit {0}))) → members_have_float ms ≡ false → members_have_float (all_put ms pairs) ≡ false
+all_put_none : (ms : Members) (pairs : List (Text × Value FluentDateTime)) → members_have_float ms ≡ false → members_have_float (all_put ms pairs) ≡ false
 all_put_none ms [] em = em
 all_put_none ms (pair ∷ pairs) em = all_put_none (put pair.0 (value_data pair.1) ms) pairs (put_none pair.0 (value_data pair.1) ms (value_none pair.1) em)
 
-pub call_none : (name : Text) (values : List (Value (Unit {0}))) (pairs : List (Text × Value (Unit {0}))) → has_float (call_data name values pairs) ≡ false
+pub call_none : (name : Text) (values : List (Value FluentDateTime)) (pairs : List (Text × Value FluentDateTime)) → has_float (call_data name values pairs) ≡ false
 call_none name values pairs = neither refl (neither (values_none values) (neither (all_put_none no_members pairs refl) refl))
 
 -- what holds of a value on Ok, by what held of it

@@ -4,10 +4,11 @@ ghost use Rattle.std.specs.Prelude.{◌≡◌, IfOk, map, string_bytes};
 ghost use Rattle.serde_json.specs.Data.{no_members, object, string};
 ghost use Rattle.serde_json.specs.View.{items_view, members_view, view};
 ghost use Rattle.fluent_calls.specs.Calls.{all_put, call_data, call_text, three, value_data};
-ghost use Rattle.fluent_run.specs.DeskView.{arguments_view as table_of};
+ghost use Rattle.fluent_run.specs.Dated.{dated_view as table_of};
 ghost use Rattle.fluent_calls.specs.CallValues.{items_data, plain, plain_all};
 
-use fluent_value::{FluentArgs, FluentValue, NoCustom};
+use fluent_dates::DateTimeValue;
+use fluent_value::{FluentArgs, FluentValue};
 use serde_json::{Map, Value};
 use std::alloc::{AllocError, Global};
 
@@ -19,8 +20,8 @@ use std::alloc::{AllocError, Global};
 pub(crate) fn call_text(
     alloc: Global,
     name: &str,
-    positional: &[FluentValue<'_, NoCustom>],
-    named: &FluentArgs<'_, NoCustom>,
+    positional: &[FluentValue<'_, DateTimeValue>],
+    named: &FluentArgs<'_, DateTimeValue>,
 ) -> Result<String, AllocError>
     ensures { IfOk result (λ text. string_bytes text
         ≡ call_text name.now (plain_all positional.now) (table_of named.now)) }
@@ -32,8 +33,8 @@ pub(crate) fn call_text(
 fn call_value(
     alloc: Global,
     name: &str,
-    positional: &[FluentValue<'_, NoCustom>],
-    named: &FluentArgs<'_, NoCustom>,
+    positional: &[FluentValue<'_, DateTimeValue>],
+    named: &FluentArgs<'_, DateTimeValue>,
 ) -> Result<Value, AllocError>
     ensures { IfOk result (λ value. view value
         ≡ call_data name.now (plain_all positional.now) (table_of named.now)) }
@@ -49,7 +50,7 @@ fn call_value(
 /// Values of JSON for positional arguments.
 fn positional_values(
     alloc: Global,
-    positional: &[FluentValue<'_, NoCustom>],
+    positional: &[FluentValue<'_, DateTimeValue>],
 ) -> Result<Vec<Value>, AllocError>
     ensures { IfOk result (λ values. items_view values.items ≡ items_data (plain_all positional.now)) }
 {
@@ -61,7 +62,7 @@ fn positional_values(
 }
 
 /// An object of named values.
-fn named_value(alloc: Global, named: &FluentArgs<'_, NoCustom>) -> Result<Value, AllocError>
+fn named_value(alloc: Global, named: &FluentArgs<'_, DateTimeValue>) -> Result<Value, AllocError>
     ensures { IfOk result (λ value. view value ≡ object (all_put no_members (table_of named.now))) }
 {
     let mut members = Map::new(alloc);
@@ -73,7 +74,7 @@ fn named_value(alloc: Global, named: &FluentArgs<'_, NoCustom>) -> Result<Value,
 }
 
 /// A value of JSON for an argument.
-fn value_of(alloc: Global, value: &FluentValue<'_, NoCustom>) -> Result<Value, AllocError>
+fn value_of(alloc: Global, value: &FluentValue<'_, DateTimeValue>) -> Result<Value, AllocError>
     ensures { IfOk result (λ made. view made ≡ value_data (plain value.now)) }
 {
     match value {
@@ -84,6 +85,12 @@ fn value_of(alloc: Global, value: &FluentValue<'_, NoCustom>) -> Result<Value, A
             serde_json::put(&mut members, alloc, "number", text)?;
             Ok(Value::Object(members))
         }
-        FluentValue::Custom(_) | FluentValue::None | FluentValue::Error => Ok(Value::Null),
+        FluentValue::Custom(date) => {
+            let mut members = Map::new(alloc);
+            let text = Value::String(date.0.as_iso_string(alloc)?);
+            serde_json::put(&mut members, alloc, "date", text)?;
+            Ok(Value::Object(members))
+        }
+        FluentValue::None | FluentValue::Error => Ok(Value::Null),
     }
 }

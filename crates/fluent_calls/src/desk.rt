@@ -1,20 +1,22 @@
-//! Formats messages that call functions, with answers to their calls.
+//! Formats messages with dates that may call functions, with answers to their calls.
 
 ghost use Rattle.std.specs.Prelude.{IfOk};
 ghost use Rattle.fluent_ast.specs.Borrowed.{elements_of};
 ghost use Rattle.fluent_calls.specs.CallsView.{IsMadeWith};
-ghost use Rattle.fluent_calls.specs.Outcomes.{Formats, Lists, ListsOf, Resolves};
+ghost use Rattle.fluent_calls.specs.Outcomes.{Formats, Lists, ListsOf, Replies, Resolves, Writes};
 
+use crate::callee::Callee;
 use crate::calls::Calls;
 use crate::catalog::ids_with;
 use crate::gathering::gather_pattern;
 use crate::otherwise::Otherwise;
 use fluent_ast::Pattern;
+use fluent_dates::{DateTimeValue, LocaleDates};
 use fluent_progress::Surroundings;
 use fluent_resource::FluentResource;
-use fluent_run::{Asking, Desk, Reply, Settings, resolve};
+use fluent_run::{Dating, Desk, Reply, Settings, resolve};
 use fluent_text::stack::StackBudget;
-use fluent_value::{FluentArgs, MemoizerKind, NoCustom};
+use fluent_value::{FluentArgs, MemoizerKind};
 use std::alloc::{AllocError, Global};
 use std::cell::Cell;
 use std::marker::PhantomData;
@@ -26,22 +28,26 @@ pub enum Outcome {
     Text(Reply),
     /// The first call that has no answer: a line of JSON, an array of the function's name, an array
     /// of the positional arguments, and an object of the named ones. A text is a text there, a
-    /// number `{"number":"1.50"}`, and no value `null`.
+    /// number `{"number":"1.50"}`, a date `{"date":"2026-11-28"}` as ISO 8601 has it, without its
+    /// options, and no value `null`.
     Call(String),
 }
 
-/// What formats messages that may call functions: a desk in which a function is its place among
-/// the functions' names.
+/// What formats messages that may call functions: a desk in which a function of the program is its
+/// place among the functions' names. `DATETIME` is there beside them.
 #[derive(Drop)]
 pub struct FunctionDesk<'b, 'r, 's, M> {
     /// The messages and terms, and the functions among their ids.
-    pub desk: Desk<'b, 'r, 's, M, usize>,
+    pub desk: Desk<'b, 'r, 's, M, Callee>,
     functions: &'b [String],
+    dates: Option<LocaleDates>,
 }
 
 impl<'b, 'r, 's, M: MemoizerKind> FunctionDesk<'b, 'r, 's, M> {
     /// Formats from resources, in their order, which may call functions of these names. A name
-    /// counts only if it isn't the id of a message or a term, nor `NUMBER`.
+    /// counts only if it isn't the id of a message or a term, nor `NUMBER`; if it is `DATETIME`, it
+    /// counts before the function that is there. `dates` is how dates are written, `None` if as ISO
+    /// 8601 has them.
     ///
     /// # Errors
     /// [`AllocError`] if memory runs out; nothing is kept.
@@ -50,22 +56,27 @@ impl<'b, 'r, 's, M: MemoizerKind> FunctionDesk<'b, 'r, 's, M> {
         resources: &'r [FluentResource<'s>],
         functions: &'b [String],
         settings: Settings,
+        dates: Option<LocaleDates>,
         plurals: &'b M,
         stack: StackBudget,
     ) -> Result<Self, AllocError>
-        ensures { IfOk result (IsMadeWith functions.now resources.now settings plurals.now stack) }
+        ensures { IfOk result (IsMadeWith functions.now resources.now settings dates plurals.now stack) }
     {
         let ids = ids_with(alloc, resources, settings.overriding, functions)?;
         let desk = Desk::of(ids, resources, settings, plurals, stack);
-        Ok(FunctionDesk { desk, functions })
+        Ok(FunctionDesk {
+            desk,
+            functions,
+            dates,
+        })
     }
 
     /// What a message comes to for these arguments, with these answers by the calls' texts: its
     /// value, or its first attribute of a name. `None` if there is no such message, value or
     /// attribute. It is written into the memory of `text`, whose old bytes are lost.
     ///
-    /// If it is a text, all calls that were met have answers: whatever functions would give to
-    /// other calls, the text is the same.
+    /// If it is a text, it is what the message gives if functions give these answers, and to other
+    /// calls what `K` says, whatever that is.
     ///
     /// # Errors
     /// [`AllocError`] if memory runs out, or if calls and placeables nest so deep, over all
@@ -76,12 +87,12 @@ impl<'b, 'r, 's, M: MemoizerKind> FunctionDesk<'b, 'r, 's, M> {
         alloc: Global,
         id: &str,
         attribute: Option<&str>,
-        arguments: &FluentArgs<'_, NoCustom>,
-        answers: &FluentArgs<'_, NoCustom>,
+        arguments: &FluentArgs<'_, DateTimeValue>,
+        answers: &FluentArgs<'_, DateTimeValue>,
         text: String,
     ) -> Result<Option<Outcome>, AllocError>
         ensures { IfOk result
-            (Formats M.MemoizerKind K.otherwise self.now id.now attribute.entry arguments.now answers.now) }
+            (Formats M.category_of K.otherwise self.now id.now attribute.entry arguments.now answers.now) }
     {
         let Some(pattern) = self.desk.pattern_named(id, attribute) else {
             return Ok(None);
@@ -106,15 +117,61 @@ impl<'b, 'r, 's, M: MemoizerKind> FunctionDesk<'b, 'r, 's, M> {
         alloc: Global,
         id: &str,
         attribute: Option<&str>,
-        arguments: &FluentArgs<'_, NoCustom>,
-        answers: &FluentArgs<'_, NoCustom>,
+        arguments: &FluentArgs<'_, DateTimeValue>,
+        answers: &FluentArgs<'_, DateTimeValue>,
     ) -> Result<Option<String>, AllocError>
         ensures { IfOk result
-            (ListsOf M.MemoizerKind K.otherwise self.now id.now attribute.entry arguments.now answers.now) }
+            (ListsOf M.category_of K.otherwise self.now id.now attribute.entry arguments.now answers.now) }
     {
         match self.desk.pattern_named(id, attribute) {
             Some(pattern) => Ok(Some(self.calls_of::<K>(alloc, pattern, arguments, answers)?)),
             None => Ok(None),
+        }
+    }
+
+    /// What a message gives for these arguments, if it meets no call of a function of the program:
+    /// its value, or its first attribute of a name. `None` if there is no such message, value or
+    /// attribute. It is written into the memory of `text`, whose old bytes are lost.
+    ///
+    /// # Errors
+    /// Those of [`format`](Self::format), and [`AllocError`] if it meets such a call.
+    pub fn reply<K: Otherwise>(
+        &self,
+        alloc: Global,
+        id: &str,
+        attribute: Option<&str>,
+        arguments: &FluentArgs<'_, DateTimeValue>,
+        text: String,
+    ) -> Result<Option<Reply>, AllocError>
+        ensures { IfOk result
+            (Replies M.category_of K.otherwise self.now id.now attribute.entry arguments.now) }
+    {
+        let found = self.desk.pattern_named(id, attribute);
+        let Some(pattern) = found else {
+            return Ok(None);
+        };
+        Ok(Some(self.write::<K>(alloc, pattern, arguments, text)?))
+    }
+
+    /// What a pattern gives for these arguments, if it meets no call of a function of the program.
+    /// It is written into the memory of `text`, whose old bytes are lost.
+    ///
+    /// # Errors
+    /// Those of [`format`](Self::format), and [`AllocError`] if it meets such a call.
+    pub fn write<K: Otherwise>(
+        &self,
+        alloc: Global,
+        pattern: &'r Pattern<&'s str>,
+        arguments: &FluentArgs<'_, DateTimeValue>,
+        text: String,
+    ) -> Result<Reply, AllocError>
+        ensures { IfOk result
+            (Writes M.category_of K.otherwise self.now arguments.now pattern.now) }
+    {
+        let answers = FluentArgs::new(alloc);
+        match self.outcome_of::<K>(alloc, pattern, arguments, &answers, text)? {
+            Outcome::Text(reply) => Ok(reply),
+            Outcome::Call(_) => Err(AllocError),
         }
     }
 
@@ -123,11 +180,11 @@ impl<'b, 'r, 's, M: MemoizerKind> FunctionDesk<'b, 'r, 's, M> {
         &'x self,
         alloc: Global,
         pattern: &'r Pattern<&'s str>,
-        arguments: &'x FluentArgs<'_, NoCustom>,
-        answers: &'x FluentArgs<'_, NoCustom>,
+        arguments: &'x FluentArgs<'_, DateTimeValue>,
+        answers: &'x FluentArgs<'_, DateTimeValue>,
     ) -> Result<String, AllocError>
         ensures { IfOk result
-            (Lists M.MemoizerKind K.otherwise self.now arguments.now answers.now (elements_of pattern.now)) }
+            (Lists M.category_of K.otherwise self.now arguments.now answers.now (elements_of pattern.now)) }
     {
         let calls: Calls<'_, '_, K> = Calls {
             functions: self.functions,
@@ -135,12 +192,15 @@ impl<'b, 'r, 's, M: MemoizerKind> FunctionDesk<'b, 'r, 's, M> {
             missing: Cell::new(None),
             otherwise: PhantomData,
         };
-        let context = Asking {
-            desk: &self.desk,
+        let context = Dating {
+            settings: self.desk.settings,
+            dates: self.dates,
+            plurals: self.desk.plurals,
             caller: &calls,
+            stack: self.desk.stack,
             alloc,
         };
-        let locals: Option<&'x FluentArgs<'s, NoCustom>> = None;
+        let locals: Option<&'x FluentArgs<'s, DateTimeValue>> = None;
         let arguments = Some(arguments);
         let place = Surroundings {
             ids: &self.desk.ids,
@@ -156,12 +216,12 @@ impl<'b, 'r, 's, M: MemoizerKind> FunctionDesk<'b, 'r, 's, M> {
         &'x self,
         alloc: Global,
         pattern: &'r Pattern<&'s str>,
-        arguments: &'x FluentArgs<'_, NoCustom>,
-        answers: &'x FluentArgs<'_, NoCustom>,
+        arguments: &'x FluentArgs<'_, DateTimeValue>,
+        answers: &'x FluentArgs<'_, DateTimeValue>,
         text: String,
     ) -> Result<Outcome, AllocError>
         ensures { IfOk result
-            (Resolves M.MemoizerKind K.otherwise self.now arguments.now answers.now pattern.now) }
+            (Resolves M.category_of K.otherwise self.now arguments.now answers.now pattern.now) }
     {
         let calls: Calls<'_, '_, K> = Calls {
             functions: self.functions,
@@ -169,12 +229,15 @@ impl<'b, 'r, 's, M: MemoizerKind> FunctionDesk<'b, 'r, 's, M> {
             missing: Cell::new(None),
             otherwise: PhantomData,
         };
-        let context = Asking {
-            desk: &self.desk,
+        let context = Dating {
+            settings: self.desk.settings,
+            dates: self.dates,
+            plurals: self.desk.plurals,
             caller: &calls,
+            stack: self.desk.stack,
             alloc,
         };
-        let locals: Option<&'x FluentArgs<'s, NoCustom>> = None;
+        let locals: Option<&'x FluentArgs<'s, DateTimeValue>> = None;
         let place = Surroundings {
             ids: &self.desk.ids,
             context: &context,
@@ -183,7 +246,7 @@ impl<'b, 'r, 's, M: MemoizerKind> FunctionDesk<'b, 'r, 's, M> {
         };
         match resolve(&place, pattern, text, self.desk.stack) {
             Ok(reply) => Ok(Outcome::Text(reply)),
-            Err(AllocError) => Ok(Outcome::Call(calls.left()?)),
+            Err(AllocError) => Ok(Outcome::Call(calls.left(&self.desk.ids)?)),
         }
     }
 }

@@ -10,25 +10,27 @@ ghost use Rattle.fluent_calls.specs.GatheringView.{AreGatheredOf, Gathered, Give
 ghost use Rattle.fluent_meaning.specs.Steps.{opens};
 ghost use Rattle.fluent_progress.specs.Views.{path_of, state};
 ghost use Rattle.fluent_resolver.specs.Steps.{call_of};
-ghost use Rattle.fluent_run.specs.DeskView.{arguments_view};
+ghost use Rattle.fluent_run.specs.Dated.{dated_view};
 ghost use Rattle.fluent_serve.specs.Frames.{ended};
 ghost use Rattle.fluent_value.specs.Args.{all_set, argument as argument_of};
 ghost use Rattle.fluent_value.specs.Value.{error};
 ghost use Rattle.std.specs.Prelude.{◌≡◌, ◌++◌, [], IfOk, None, OnOk, string_bytes, unwrap_or};
 
 use crate::call::call_text;
+use crate::callee::Callee;
 use crate::calls::Calls;
 use crate::otherwise::Otherwise;
 use crate::plain::plain_in;
 use fluent_ast::{
     CallArguments, Expression, Identifier, InlineExpression, NamedArgument, Pattern, PatternElement,
 };
+use fluent_dates::{DATETIME, DateTimeValue};
 use fluent_ids::Entry;
 use fluent_progress::text::literal_value;
 use fluent_progress::{Context, Progress, Surroundings};
 use fluent_resolver::pattern::write_opened;
 use fluent_text::stack::{Stack, StackBudget, resolving};
-use fluent_value::{FluentArgs, FluentValue, NoCustom, builtins};
+use fluent_value::{FluentArgs, FluentValue, builtins};
 use std::alloc::{AllocError, Global};
 use std::borrow::CowStr;
 
@@ -37,8 +39,8 @@ use std::borrow::CowStr;
 /// # Errors
 /// [`AllocError`] if memory runs out, or if calls and placeables nest so deep that they would take
 /// more of the machine's stack than the budget.
-pub(crate) fn gather_pattern<'b, 'r, 's, 'a, E: Context<NoCustom, usize>, K: Otherwise>(
-    place: &Surroundings<'b, 'r, 's, 'a, NoCustom, usize, E>,
+pub(crate) fn gather_pattern<'b, 'r, 's, 'a, E: Context<DateTimeValue, Callee>, K: Otherwise>(
+    place: &Surroundings<'b, 'r, 's, 'a, DateTimeValue, Callee, E>,
     calls: &Calls<'_, '_, K>,
     pattern: &'r Pattern<&'s str>,
     stack: StackBudget,
@@ -61,8 +63,8 @@ pub(crate) fn gather_pattern<'b, 'r, 's, 'a, E: Context<NoCustom, usize>, K: Oth
 
 /// Puts the calls of a placeable into lines of `found`, and answers whether those after it are
 /// known, too.
-fn gather_placeable<'b, 'r, 's, 'a, E: Context<NoCustom, usize>, K: Otherwise>(
-    place: &Surroundings<'b, 'r, 's, 'a, NoCustom, usize, E>,
+fn gather_placeable<'b, 'r, 's, 'a, E: Context<DateTimeValue, Callee>, K: Otherwise>(
+    place: &Surroundings<'b, 'r, 's, 'a, DateTimeValue, Callee, E>,
     progress: &mut Progress<'r, 's>,
     calls: &Calls<'_, '_, K>,
     whole: &'r Pattern<&'s str>,
@@ -85,15 +87,15 @@ fn gather_placeable<'b, 'r, 's, 'a, E: Context<NoCustom, usize>, K: Otherwise>(
     match pass(place, progress, whole, expression) {
         Ok(()) => Ok(true),
         Err(AllocError) => {
-            push_line(calls.left()?, found)?;
+            push_line(calls.left(place.ids)?, found)?;
             Ok(false)
         }
     }
 }
 
 /// Resolves an opened placeable. Its text is dropped.
-fn pass<'b, 'r, 's, 'a, E: Context<NoCustom, usize>>(
-    place: &Surroundings<'b, 'r, 's, 'a, NoCustom, usize, E>,
+fn pass<'b, 'r, 's, 'a, E: Context<DateTimeValue, Callee>>(
+    place: &Surroundings<'b, 'r, 's, 'a, DateTimeValue, Callee, E>,
     progress: &mut Progress<'r, 's>,
     pattern: &'r Pattern<&'s str>,
     expression: &'r Expression<&'s str>,
@@ -122,13 +124,13 @@ fn open_placeable(progress: &mut Progress<'_, '_>) -> Result<bool, AllocError>
 /// The value of a plain expression, if each call in it has an answer. Those that have none are put
 /// into lines of `found`.
 #[cycle(gathering)]
-fn gather_value<'b, 'r, 's, 'a, E: Context<NoCustom, usize>>(
-    place: &Surroundings<'b, 'r, 's, 'a, NoCustom, usize, E>,
+fn gather_value<'b, 'r, 's, 'a, E: Context<DateTimeValue, Callee>>(
+    place: &Surroundings<'b, 'r, 's, 'a, DateTimeValue, Callee, E>,
     frames: &mut Stack,
-    answers: &FluentArgs<'_, NoCustom>,
+    answers: &FluentArgs<'_, DateTimeValue>,
     inline: &'r InlineExpression<&'s str>,
     found: &mut String,
-) -> Result<Option<FluentValue<'s, NoCustom>>, AllocError>
+) -> Result<Option<FluentValue<'s, DateTimeValue>>, AllocError>
     ensures value { GivesValue result (known place.now answers.now (inline_of inline.now)) }
     ensures lines { Gathered result found.old found.new
         (lacking place.now answers.now (inline_of inline.now)) }
@@ -147,14 +149,14 @@ fn gather_value<'b, 'r, 's, 'a, E: Context<NoCustom, usize>>(
 
 /// The value of a call.
 #[cycle(gathering)]
-fn gather_call<'b, 'r, 's, 'a, E: Context<NoCustom, usize>>(
-    place: &Surroundings<'b, 'r, 's, 'a, NoCustom, usize, E>,
+fn gather_call<'b, 'r, 's, 'a, E: Context<DateTimeValue, Callee>>(
+    place: &Surroundings<'b, 'r, 's, 'a, DateTimeValue, Callee, E>,
     frames: &mut Stack,
-    answers: &FluentArgs<'_, NoCustom>,
+    answers: &FluentArgs<'_, DateTimeValue>,
     id: &'r Identifier<&'s str>,
     arguments: &'r CallArguments<&'s str>,
     found: &mut String,
-) -> Result<Option<FluentValue<'s, NoCustom>>, AllocError>
+) -> Result<Option<FluentValue<'s, DateTimeValue>>, AllocError>
     ensures value { GivesValue result (known place.now answers.now (call_of id.now arguments.now)) }
     ensures lines { Gathered result found.old found.new
         (lacking place.now answers.now (call_of id.now arguments.now)) }
@@ -173,13 +175,13 @@ fn gather_call<'b, 'r, 's, 'a, E: Context<NoCustom, usize>>(
 
 /// The values of positional arguments, if all are known.
 #[cycle(gathering)]
-fn gather_values<'b, 'r, 's, 'a, E: Context<NoCustom, usize>>(
-    place: &Surroundings<'b, 'r, 's, 'a, NoCustom, usize, E>,
+fn gather_values<'b, 'r, 's, 'a, E: Context<DateTimeValue, Callee>>(
+    place: &Surroundings<'b, 'r, 's, 'a, DateTimeValue, Callee, E>,
     frames: &mut Stack,
-    answers: &FluentArgs<'_, NoCustom>,
+    answers: &FluentArgs<'_, DateTimeValue>,
     arguments: &'r Vec<InlineExpression<&'s str>>,
     found: &mut String,
-) -> Result<Option<Vec<FluentValue<'s, NoCustom>>>, AllocError>
+) -> Result<Option<Vec<FluentValue<'s, DateTimeValue>>>, AllocError>
     ensures value { GivesValues result (all_known place.now answers.now arguments.now.items) }
     ensures lines { Gathered result found.old found.new
         (all_lacking place.now answers.now arguments.now.items) }
@@ -200,10 +202,10 @@ fn gather_values<'b, 'r, 's, 'a, E: Context<NoCustom, usize>>(
 }
 
 /// The value of a variable, or an error if it has none.
-fn argument<'b, 'r, 's, 'a, E: Context<NoCustom, usize>>(
-    place: &Surroundings<'b, 'r, 's, 'a, NoCustom, usize, E>,
+fn argument<'b, 'r, 's, 'a, E: Context<DateTimeValue, Callee>>(
+    place: &Surroundings<'b, 'r, 's, 'a, DateTimeValue, Callee, E>,
     id: &Identifier<&'s str>,
-) -> Result<FluentValue<'s, NoCustom>, AllocError>
+) -> Result<FluentValue<'s, DateTimeValue>, AllocError>
     ensures { IfOk result (λ value. plain value
         ≡ unwrap_or (argument_of (name_of id.now) (arguments_in place.now)) error) }
 {
@@ -218,11 +220,11 @@ fn argument<'b, 'r, 's, 'a, E: Context<NoCustom, usize>>(
 }
 
 /// The values of named arguments that are literals: of a name that comes twice the last one.
-fn literal_values<'b, 'r, 's, 'a, E: Context<NoCustom, usize>>(
-    place: &Surroundings<'b, 'r, 's, 'a, NoCustom, usize, E>,
+fn literal_values<'b, 'r, 's, 'a, E: Context<DateTimeValue, Callee>>(
+    place: &Surroundings<'b, 'r, 's, 'a, DateTimeValue, Callee, E>,
     arguments: &'r Vec<NamedArgument<&'s str>>,
-) -> Result<FluentArgs<'s, NoCustom>, AllocError>
-    ensures { IfOk result (λ values. arguments_view values
+) -> Result<FluentArgs<'s, DateTimeValue>, AllocError>
+    ensures { IfOk result (λ values. dated_view values
         ≡ all_set [] (literals (named_of arguments.now.items))) }
 {
     let alloc = place.context.alloc();
@@ -238,7 +240,7 @@ fn literal_values<'b, 'r, 's, 'a, E: Context<NoCustom, usize>>(
 fn literal<'s>(
     alloc: Global,
     inline: &InlineExpression<&'s str>,
-) -> Result<FluentValue<'s, NoCustom>, AllocError>
+) -> Result<FluentValue<'s, DateTimeValue>, AllocError>
     ensures { IfOk result (λ value. plain value ≡ unwrap_or (literal_of (inline_of inline.now)) error) }
 {
     match inline {
@@ -250,14 +252,14 @@ fn literal<'s>(
 
 /// What a call with these values gives. If it is one of a function of the program that has no
 /// answer, it is put into a line of `found`.
-fn call_value<'b, 'r, 's, 'a, E: Context<NoCustom, usize>>(
-    place: &Surroundings<'b, 'r, 's, 'a, NoCustom, usize, E>,
-    answers: &FluentArgs<'_, NoCustom>,
+fn call_value<'b, 'r, 's, 'a, E: Context<DateTimeValue, Callee>>(
+    place: &Surroundings<'b, 'r, 's, 'a, DateTimeValue, Callee, E>,
+    answers: &FluentArgs<'_, DateTimeValue>,
     id: &str,
-    positional: &[FluentValue<'s, NoCustom>],
-    named: &FluentArgs<'s, NoCustom>,
+    positional: &[FluentValue<'s, DateTimeValue>],
+    named: &FluentArgs<'s, DateTimeValue>,
     found: &mut String,
-) -> Result<Option<FluentValue<'s, NoCustom>>, AllocError>
+) -> Result<Option<FluentValue<'s, DateTimeValue>>, AllocError>
     ensures value { GivesValue result
         (result_of place.now answers.now id.now positional.now named.now) }
     ensures lines { Gathered result found.old found.new
@@ -265,7 +267,7 @@ fn call_value<'b, 'r, 's, 'a, E: Context<NoCustom, usize>>(
 {
     let alloc = place.context.alloc();
     match place.ids.get(id) {
-        Some(Entry::Function(_)) => {
+        Some(Entry::Function(Callee::Program(_))) => {
             let call = call_text(alloc, id, positional, named)?;
             match answers.get(&call) {
                 Some(answer) => Ok(Some(answer.into_owned(alloc)?)),
@@ -275,6 +277,7 @@ fn call_value<'b, 'r, 's, 'a, E: Context<NoCustom, usize>>(
                 }
             }
         }
+        Some(Entry::Function(Callee::DateTime)) => Ok(Some(DATETIME(alloc, positional, named)?)),
         Some(Entry::Number) => Ok(Some(builtins::NUMBER(alloc, positional, named)?)),
         _ => Ok(Some(FluentValue::Error)),
     }

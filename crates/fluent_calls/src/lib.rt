@@ -8,6 +8,7 @@
 #![tactic(auto)]
 
 mod call;
+mod callee;
 mod calls;
 mod catalog;
 mod desk;
@@ -16,5 +17,6 @@ mod otherwise;
 mod plain;
 mod text;
 
+pub use callee::Callee;
 pub use desk::{FunctionDesk, Outcome};
 pub use otherwise::{Otherwise, Unanswered};

@@ -2,7 +2,6 @@
 use base.Fml.{Lft, fex}
 use base.Shift.{Keyless}
 use denote.Param.Send.{IsSend, IsSync, part_keyless, recorded_sync, sendable, struct_sync}
-use denote.Builtin.{usize}
 use denote.RattleType.{RattleType}
 use denote.Struct.Declared.{shape}
 use denote.Struct.Struct.{Struct}
@@ -17,7 +16,10 @@ use Rattle.fluent_ast.proofs.Expression.TheLaws.TheKnot as knot
 use Rattle.fluent_ast.specs.contracts.Message as message
 use Rattle.fluent_ast.specs.contracts.Resource as resource
 use Rattle.fluent_ast.specs.contracts.Term as term
+use Rattle.fluent_calls.specs.contracts.callee.Callee as callee
 use Rattle.fluent_calls.specs.contracts.desk.FunctionDesk as function_desk
+use Rattle.fluent_dates.proofs.dates.LocaleDates.TheSendSync as dates_crossing
+use Rattle.fluent_dates.specs.contracts.dates.LocaleDates as dates
 use Rattle.fluent_ids.specs.contracts.entry.Entry as entry
 use Rattle.fluent_ids.specs.contracts.ids.FluentIds as ids
 use Rattle.core.specs.contracts.option.Option as option
@@ -28,7 +30,6 @@ use Rattle.fluent_plurals.specs.contracts.plurals.LanguagePlurals as plurals
 use Rattle.fluent_resource.specs.contracts.resource.FluentResource as read
 use Rattle.fluent_run.specs.contracts.desk.Desk as run_desk
 use Rattle.fluent_run.specs.contracts.settings.Settings as settings
-use Rattle.fluent_value.specs.contracts.function.NoFunction as function
 use Rattle.fluent_kept.specs.Catalogs.{Catalog}
 use Rattle.fluent_kept.specs.Handle.{handle_owns}
 use Rattle.fluent_kept.specs.Kept.{lived, sources_row, resources_row, desk_row, some_boxed, some_lent, bundle_owns}
@@ -49,10 +50,13 @@ module _ (r s : NamedLft) where
   term_sync : IsSync (term.the_row (str-field s).row)
   term_sync = search (std.crosses, knot.crosses, knot.crosses_both, sendable) depth 60 fits 20000
 
-  entry_send : IsSend (entry.the_row r s function.the_row)
-  entry_send = let a = resource_sync in let b = message_sync in let c = term_sync in search sendable depth 40
+  callee_send : IsSend callee.the_row
+  callee_send = search sendable depth 40
 
-  ids_send : IsSend (ids.the_field r s function.the_row).row
+  entry_send : IsSend (entry.the_row r s callee.the_row)
+  entry_send = let a = resource_sync in let b = message_sync in let c = term_sync in let d = callee_send in search sendable depth 40
+
+  ids_send : IsSend (ids.the_field r s callee.the_row).row
   ids_send = let a = entry_send in search (maps.crosses, std.crosses, sendable) depth 40 fits 20000
 
   plurals_sync : IsSync plurals.the_row
@@ -79,47 +83,34 @@ module _ (r s : NamedLft) where
   settings_field_send : IsSend settings.the_field.row
   settings_field_send = let a = numerals_send in search sendable depth 40
 
-  run_desk_send : IsSend (run_desk.the_field s r s plurals.the_row function.the_row).row
+  dates_send : IsSend (option.the_field dates.the_row).row
+  dates_send = let a = dates_crossing.the_send in search sendable depth 40
+
+  run_desk_send : IsSend (run_desk.the_field s r s plurals.the_row callee.the_row).row
   run_desk_send =
       let a = ids_send in let b = plurals_sync in let c = settings_send in let d = read_sync in let e = settings_field_send in
       search (std.crosses, sendable) depth 60 fits 20000
 
-  run_desk_row_send : IsSend (run_desk.the_row s r s plurals.the_row function.the_row)
-  run_desk_row_send =
-      let a = ids_send in let b = plurals_sync in let c = settings_send in let d = read_sync in let e = settings_field_send in
-      search (std.crosses, sendable) depth 60 fits 20000
-
-  calling_entry_send : IsSend (entry.the_row r s usize)
-  calling_entry_send = let a = resource_sync in let b = message_sync in let c = term_sync in search sendable depth 40
-
-  calling_ids_send : IsSend (ids.the_field r s usize).row
-  calling_ids_send = let a = calling_entry_send in search (maps.crosses, std.crosses, sendable) depth 40 fits 20000
-
-  calling_desk_send : IsSend (run_desk.the_field s r s plurals.the_row usize).row
-  calling_desk_send =
-      let a = calling_ids_send in let b = plurals_sync in let c = settings_send in let d = read_sync in let e = settings_field_send in
-      search (std.crosses, sendable) depth 60 fits 20000
-
   function_desk_send : IsSend (function_desk.the_row s r s plurals.the_row)
-  function_desk_send = let a = calling_desk_send in search (std.crosses, sendable) depth 60 fits 20000
-
-  plain_send : IsSend (option.the_field (run_desk.the_row s r s plurals.the_row function.the_row)).row
-  plain_send = let a = run_desk_row_send in search sendable depth 40
+  function_desk_send = let a = run_desk_send in let b = dates_send in search (std.crosses, sendable) depth 60 fits 20000
 
   function_desk_field_send : IsSend (function_desk.the_field s r s plurals.the_row).row
-  function_desk_field_send = let a = calling_desk_send in search (std.crosses, sendable) depth 60 fits 20000
+  function_desk_field_send = let a = run_desk_send in let b = dates_send in search (std.crosses, sendable) depth 60 fits 20000
 
-  plain_row_send : IsSend (option.the_row (run_desk.the_row s r s plurals.the_row function.the_row))
-  plain_row_send = let a = run_desk_row_send in search sendable depth 40
+  plain_send : IsSend (option.the_field (function_desk.the_row s r s plurals.the_row)).row
+  plain_send = let a = function_desk_send in search sendable depth 40
+
+  plain_row_send : IsSend (option.the_row (function_desk.the_row s r s plurals.the_row))
+  plain_row_send = let a = function_desk_send in search sendable depth 40
 
   desks_send : IsSend (desks.the_row r s)
   desks_send =
-      let a = run_desk_send in let b = run_desk_row_send in let c = function_desk_send in let d = function_desk_field_send in let e = plain_send in let f = plain_row_send in
+      let a = function_desk_send in let b = function_desk_field_send in let c = plain_send in let d = plain_row_send in
       search sendable depth 60 fits 20000
 
   desks_field_send : IsSend (desks.the_field r s).row
   desks_field_send =
-      let a = run_desk_send in let b = run_desk_row_send in let c = function_desk_send in let d = function_desk_field_send in let e = plain_send in let f = plain_row_send in
+      let a = function_desk_send in let b = function_desk_field_send in let c = plain_send in let d = plain_row_send in
       search sendable depth 60 fits 20000
 
   resources_sync : IsSync (resources.the_row s)

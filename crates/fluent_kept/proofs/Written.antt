@@ -10,10 +10,8 @@ use Rattle.fluent_grammar.specs.Words.{Text}
 use Rattle.fluent_ids.specs.Found.{message_in}
 use Rattle.fluent_meaning.specs.Environment.{Environment}
 use Rattle.fluent_meaning.specs.Substitution.{answer_written}
-use Rattle.fluent_run.specs.DeskView.{arguments_view}
+use Rattle.fluent_run.specs.Dated.{dated_view}
 use Rattle.fluent_value.specs.declared.args.FluentArgs.{FluentArgs}
-use Rattle.fluent_value.specs.declared.custom.NoCustom.{NoCustom}
-use Rattle.fluent_value.specs.declared.function.NoFunction.{NoFunction}
 use Rattle.fluent_kept.specs.Answers.{IsFound, IsReply, IsReplyOrCall, IsWrittenBy}
 use Rattle.fluent_kept.specs.Catalogs.{Catalog, IsMessageOf, catalog_calling, catalog_calling_by, catalog_environment}
 use Rattle.fluent_kept.specs.Found.{IsThereBy, Keeps, message_told, pattern_of}
@@ -22,17 +20,20 @@ use Rattle.fluent_kept.specs.declared.found.Found.{Found}
 use Rattle.fluent_kept.specs.declared.question.Answer.{Answer}
 use Rattle.fluent_kept.specs.declared.question.Answer.TheVariants as answer
 use Rattle.fluent_kept.proofs.Messages.{pattern-missing, pattern-there}
+use Rattle.fluent_date.specs.declared.date_time.FluentDateTime.{FluentDateTime}
+use Rattle.fluent_dates.specs.declared.value.DateTimeValue.{DateTimeValue}
+use Rattle.fluent_calls.specs.declared.callee.Callee.{Callee}
 
 -- the answer by a message that is the one asked for
-given-reply : (env : Environment (Unit {0}) NoFunction) (id : Text) (attribute : Option (Bor Text)) (arguments : FluentArgs NoCustom) (m : t.Message) (given : Answer) →
-    message_in (env.find id) ≡ Some m → IsGivenBy env m attribute arguments given → IsReply env id (option_copied attribute) (arguments_view arguments) given
+given-reply : (env : Environment FluentDateTime Callee) (id : Text) (attribute : Option (Bor Text)) (arguments : FluentArgs DateTimeValue) (m : t.Message) (given : Answer) →
+    message_in (env.find id) ≡ Some m → IsGivenBy env m attribute arguments given → IsReply env id (option_copied attribute) (dated_view arguments) given
 given-reply env id attribute arguments m answer.Memory there is = tt
 given-reply env id attribute arguments m answer.NoMessage there is = absurd is
 given-reply env id attribute arguments m answer.NoPattern there is =
     (ap is_some there, ap is_some (pattern-there (option_copied attribute) (env.find id) m there ∙ is))
 given-reply env id attribute arguments m answer.Found there is = absurd is
 given-reply env id attribute arguments m (answer.Reply reply) there is =
-    ap (option_map (λ es. told (answer_written env (arguments_view arguments) es))) (pattern-there (option_copied attribute) (env.find id) m there) ∙ is
+    ap (option_map (λ es. told (answer_written env (dated_view arguments) es))) (pattern-there (option_copied attribute) (env.find id) m there) ∙ is
 given-reply env id attribute arguments m (answer.Call call) there is = absurd is
 given-reply env id attribute arguments m (answer.Names text) there is = absurd is
 given-reply env id attribute arguments m (answer.Report text) there is = absurd is
@@ -52,7 +53,7 @@ there-by catalog found id m all there =
 
 -- A message of the catalog, or none, by its id.
 module _ (catalog : Catalog) (id : Text) (attribute : Option Text) where
-  abbrev plain : Environment (Unit {0}) NoFunction
+  abbrev plain : Environment FluentDateTime Callee
   plain = catalog_environment catalog
 
   -- whether there is what was asked for
@@ -66,16 +67,16 @@ module _ (catalog : Catalog) (id : Text) (attribute : Option Text) where
   found-there m there has = ap is_some (pattern-there attribute (plain.find id) m there) ∙ has
 
 -- what is given where messages call no functions
-pub plain-given : (catalog : Catalog) (id : Text) (attribute : Option (Bor Text)) (arguments : FluentArgs NoCustom) (m : t.Message) (given : Answer) →
+pub plain-given : (catalog : Catalog) (id : Text) (attribute : Option (Bor Text)) (arguments : FluentArgs DateTimeValue) (m : t.Message) (given : Answer) →
     message_in ((catalog_environment catalog).find id) ≡ Some m → catalog.functions ≡ None → IsGivenBy (catalog_environment catalog) m attribute arguments given →
     IsWrittenBy (catalog_environment catalog) (catalog_calling catalog) id attribute arguments given
 plain-given catalog id attribute arguments m given there none is =
-    subst (λ f. IsReplyOrCall (catalog_environment catalog) (option_map (λ names. catalog_calling_by catalog names []) f) id (option_copied attribute) (arguments_view arguments) [] given)
+    subst (λ f. IsReplyOrCall (catalog_environment catalog) (option_map (λ names. catalog_calling_by catalog names []) f) id (option_copied attribute) (dated_view arguments) [] given)
     (sym none) (given-reply (catalog_environment catalog) id attribute arguments m given there is)
 
-pub plain-none : (catalog : Catalog) (id : Text) (attribute : Option (Bor Text)) (arguments : FluentArgs NoCustom) →
+pub plain-none : (catalog : Catalog) (id : Text) (attribute : Option (Bor Text)) (arguments : FluentArgs DateTimeValue) →
     message_in ((catalog_environment catalog).find id) ≡ None → catalog.functions ≡ None →
     IsWrittenBy (catalog_environment catalog) (catalog_calling catalog) id attribute arguments answer.NoMessage
 plain-none catalog id attribute arguments missing none =
-    subst (λ f. IsReplyOrCall (catalog_environment catalog) (option_map (λ names. catalog_calling_by catalog names []) f) id (option_copied attribute) (arguments_view arguments) [] answer.NoMessage)
+    subst (λ f. IsReplyOrCall (catalog_environment catalog) (option_map (λ names. catalog_calling_by catalog names []) f) id (option_copied attribute) (dated_view arguments) [] answer.NoMessage)
     (sym none) (ap is_some missing, ap is_some (pattern-missing (option_copied attribute) ((catalog_environment catalog).find id) missing))

@@ -1,5 +1,5 @@
 -- Which answers there are to a question.
-use Rattle.std.specs.Prelude.{◌≡◌, ℕ, Bool, true, false, List, [], Option, None, Some, IsNone, IsSome, IsSomeAnd, option_copied, string_bytes}
+use Rattle.std.specs.Prelude.{◌≡◌, Bool, true, false, List, [], Option, None, Some, IsNone, IsSome, IsSomeAnd, option_copied, string_bytes}
 use denote.Ref.{Bor}
 use Rattle.fluent_answers.specs.Answers.{pattern_asked}
 use Rattle.fluent_calls.specs.Functions.{IsUnanswered, Table}
@@ -10,13 +10,11 @@ use Rattle.fluent_grammar.specs.Words.{Text}
 use Rattle.fluent_ids.specs.Found.{message_in}
 use Rattle.fluent_meaning.specs.Environment.{Environment}
 use Rattle.fluent_meaning.specs.Ids.{Ids, Meaning, find}
-use Rattle.fluent_run.specs.DeskView.{arguments_view, message_reply}
+use Rattle.fluent_run.specs.DeskView.{message_reply}
 use Rattle.fluent_run.specs.Listing.{attribute_lines, message_lines}
 use Rattle.fluent_run.specs.ReplyView.{reply_view}
 use Rattle.fluent_value.specs.Value.{Value}
 use Rattle.fluent_value.specs.declared.args.FluentArgs.{FluentArgs}
-use Rattle.fluent_value.specs.declared.custom.NoCustom.{NoCustom}
-use Rattle.fluent_value.specs.declared.function.NoFunction.{NoFunction}
 use Rattle.fluent_check.specs.Report.{report_text}
 use Rattle.fluent_kept.specs.Catalogs.{Catalog, ForIts, IsDeskOf, calling_in, catalog_calling, catalog_entries, catalog_environment, catalog_ids}
 use Rattle.fluent_kept.specs.Variables.{variable_lines}
@@ -25,8 +23,12 @@ use Rattle.fluent_kept.specs.declared.question.Answer.{Answer}
 use Rattle.fluent_kept.specs.declared.question.Answer.TheVariants as answer
 use Rattle.fluent_kept.specs.declared.question.Question.{Question}
 use Rattle.fluent_kept.specs.declared.question.Question.TheVariants as question
+use Rattle.fluent_date.specs.declared.date_time.FluentDateTime.{FluentDateTime}
+use Rattle.fluent_dates.specs.declared.value.DateTimeValue.{DateTimeValue}
+use Rattle.fluent_calls.specs.declared.callee.Callee.{Callee}
+use Rattle.fluent_run.specs.Dated.{dated_view}
 
-module _ {F : Type 0} (env : Environment (Unit {0}) F) (id : Text) where
+module _ {F : Type 0} (env : Environment FluentDateTime F) (id : Text) where
   -- there is no message of the id, or there is one
   abbrev pub IsMissing : Answer → Type 0
   IsMissing answer.Memory = ⊥
@@ -54,7 +56,7 @@ module _ {F : Type 0} (env : Environment (Unit {0}) F) (id : Text) where
   IsFound attribute (answer.Report text) = ⊥
 
   -- what the message gives for these arguments, unless memory ran out
-  abbrev pub IsReply : Option Text → List (Text × Value (Unit {0})) → Answer → Type 0
+  abbrev pub IsReply : Option Text → List (Text × Value FluentDateTime) → Answer → Type 0
   IsReply attribute args answer.Memory = Unit {0}
   IsReply attribute args answer.NoMessage = Lacks attribute answer.NoMessage
   IsReply attribute args answer.NoPattern = Lacks attribute answer.NoPattern
@@ -65,42 +67,42 @@ module _ {F : Type 0} (env : Environment (Unit {0}) F) (id : Text) where
   IsReply attribute args (answer.Report text) = ⊥
 
 -- the same for the code's name and arguments
-abbrev pub IsReplyTo : Environment (Unit {0}) NoFunction → Text → Option (Bor Text) → FluentArgs NoCustom → Answer → Type 0
-IsReplyTo env id attribute arguments answer = IsReply env id (option_copied attribute) (arguments_view arguments) answer
+abbrev pub IsReplyTo : Environment FluentDateTime Callee → Text → Option (Bor Text) → FluentArgs DateTimeValue → Answer → Type 0
+IsReplyTo env id attribute arguments answer = IsReply env id (option_copied attribute) (dated_view arguments) answer
 
 -- what a message that may call functions gives for these arguments, or a call to which the table has no answer
-abbrev pub IsCalled : Environment (Unit {0}) ℕ → Text → Option Text → List (Text × Value (Unit {0})) → Table → Answer → Type 0
+abbrev pub IsCalled : Environment FluentDateTime Callee → Text → Option Text → List (Text × Value FluentDateTime) → Table → Answer → Type 0
 IsCalled env id attribute args table answer.Memory = Unit {0}
 IsCalled env id attribute args table answer.NoMessage = Lacks env id attribute answer.NoMessage
 IsCalled env id attribute args table answer.NoPattern = Lacks env id attribute answer.NoPattern
 IsCalled env id attribute args table answer.Found = ⊥
 IsCalled env id attribute args table (answer.Reply reply) = message_reply env id attribute args ≡ Some (reply_view reply)
-IsCalled env id attribute args table (answer.Call call) = IsSome (pattern_asked attribute (env.find id)) × IsUnanswered table (string_bytes call)
+IsCalled env id attribute args table (answer.Call call) = IsSome (pattern_asked attribute (env.find id)) × IsUnanswered env.find table (string_bytes call)
 IsCalled env id attribute args table (answer.Names text) = ⊥
 IsCalled env id attribute args table (answer.Report text) = ⊥
 
 -- the same for the code's desk, name, arguments and answers
-abbrev pub IsCalledTo : FunctionDesk LanguagePlurals → Text → Option (Bor Text) → FluentArgs NoCustom → FluentArgs NoCustom → Answer → Type 0
+abbrev pub IsCalledTo : FunctionDesk LanguagePlurals → Text → Option (Bor Text) → FluentArgs DateTimeValue → FluentArgs DateTimeValue → Answer → Type 0
 IsCalledTo desk id attribute arguments answers answer =
-    IsCalled (calling_in desk (arguments_view answers)) id (option_copied attribute) (arguments_view arguments) (arguments_view answers) answer
+    IsCalled (calling_in desk (dated_view answers)) id (option_copied attribute) (dated_view arguments) (dated_view answers) answer
 
 -- the same where messages may call functions, and a plain reply where they don't
-abbrev pub IsReplyOrCall : Environment (Unit {0}) NoFunction → Option (Environment (Unit {0}) ℕ) → Text → Option Text → List (Text × Value (Unit {0})) → Table → Answer → Type 0
+abbrev pub IsReplyOrCall : Environment FluentDateTime Callee → Option (Environment FluentDateTime Callee) → Text → Option Text → List (Text × Value FluentDateTime) → Table → Answer → Type 0
 IsReplyOrCall env None id attribute args table answer = IsReply env id attribute args answer
 IsReplyOrCall env (Some calling) id attribute args table answer = IsCalled calling id attribute args table answer
 
 -- the same for the code's name, arguments and answers
-abbrev pub IsReplyOrCallTo : Environment (Unit {0}) NoFunction → (Table → Option (Environment (Unit {0}) ℕ)) → Text → Option (Bor Text) → FluentArgs NoCustom → FluentArgs NoCustom → Answer → Type 0
+abbrev pub IsReplyOrCallTo : Environment FluentDateTime Callee → (Table → Option (Environment FluentDateTime Callee)) → Text → Option (Bor Text) → FluentArgs DateTimeValue → FluentArgs DateTimeValue → Answer → Type 0
 IsReplyOrCallTo env calling id attribute arguments answers answer =
-    IsReplyOrCall env (calling (arguments_view answers)) id (option_copied attribute) (arguments_view arguments) (arguments_view answers) answer
+    IsReplyOrCall env (calling (dated_view answers)) id (option_copied attribute) (dated_view arguments) (dated_view answers) answer
 
 -- the same without answers to calls
-abbrev pub IsWrittenBy : Environment (Unit {0}) NoFunction → (Table → Option (Environment (Unit {0}) ℕ)) → Text → Option (Bor Text) → FluentArgs NoCustom → Answer → Type 0
+abbrev pub IsWrittenBy : Environment FluentDateTime Callee → (Table → Option (Environment FluentDateTime Callee)) → Text → Option (Bor Text) → FluentArgs DateTimeValue → Answer → Type 0
 IsWrittenBy env calling id attribute arguments answer =
-    IsReplyOrCall env (calling []) id (option_copied attribute) (arguments_view arguments) [] answer
+    IsReplyOrCall env (calling []) id (option_copied attribute) (dated_view arguments) [] answer
 
 -- the calls that are gathered of a message that may call functions, with these arguments, unless memory ran out
-abbrev pub AreMet : Environment (Unit {0}) ℕ → Text → Option Text → List (Text × Value (Unit {0})) → Table → Answer → Type 0
+abbrev pub AreMet : Environment FluentDateTime Callee → Text → Option Text → List (Text × Value FluentDateTime) → Table → Answer → Type 0
 AreMet env id attribute args table answer.Memory = Unit {0}
 AreMet env id attribute args table answer.NoMessage = Lacks env id attribute answer.NoMessage
 AreMet env id attribute args table answer.NoPattern = Lacks env id attribute answer.NoPattern
@@ -111,12 +113,12 @@ AreMet env id attribute args table (answer.Names text) = IsSomeAnd (pattern_aske
 AreMet env id attribute args table (answer.Report text) = ⊥
 
 -- the same for the code's desk, name, arguments and answers
-abbrev pub AreMetBy : FunctionDesk LanguagePlurals → Text → Option (Bor Text) → FluentArgs NoCustom → FluentArgs NoCustom → Answer → Type 0
+abbrev pub AreMetBy : FunctionDesk LanguagePlurals → Text → Option (Bor Text) → FluentArgs DateTimeValue → FluentArgs DateTimeValue → Answer → Type 0
 AreMetBy desk id attribute arguments answers answer =
-    AreMet (calling_in desk (arguments_view answers)) id (option_copied attribute) (arguments_view arguments) (arguments_view answers) answer
+    AreMet (calling_in desk (dated_view answers)) id (option_copied attribute) (dated_view arguments) (dated_view answers) answer
 
 -- there are no calls of a message where there are no functions
-abbrev pub AreNone : Environment (Unit {0}) NoFunction → Text → Option Text → Answer → Type 0
+abbrev pub AreNone : Environment FluentDateTime Callee → Text → Option Text → Answer → Type 0
 AreNone env id attribute answer.Memory = ⊥
 AreNone env id attribute answer.NoMessage = Lacks env id attribute answer.NoMessage
 AreNone env id attribute answer.NoPattern = Lacks env id attribute answer.NoPattern
@@ -127,17 +129,17 @@ AreNone env id attribute (answer.Names text) = IsSome (pattern_asked attribute (
 AreNone env id attribute (answer.Report text) = ⊥
 
 -- the calls where messages may call functions, and none where they don't
-abbrev pub AreMetOrNone : Environment (Unit {0}) NoFunction → Option (Environment (Unit {0}) ℕ) → Text → Option Text → List (Text × Value (Unit {0})) → Table → Answer → Type 0
+abbrev pub AreMetOrNone : Environment FluentDateTime Callee → Option (Environment FluentDateTime Callee) → Text → Option Text → List (Text × Value FluentDateTime) → Table → Answer → Type 0
 AreMetOrNone env None id attribute args table answer = AreNone env id attribute answer
 AreMetOrNone env (Some calling) id attribute args table answer = AreMet calling id attribute args table answer
 
 -- the same for the code's name, arguments and answers
-abbrev pub AreMetOrNoneBy : Environment (Unit {0}) NoFunction → (Table → Option (Environment (Unit {0}) ℕ)) → Text → Option (Bor Text) → FluentArgs NoCustom → FluentArgs NoCustom → Answer → Type 0
+abbrev pub AreMetOrNoneBy : Environment FluentDateTime Callee → (Table → Option (Environment FluentDateTime Callee)) → Text → Option (Bor Text) → FluentArgs DateTimeValue → FluentArgs DateTimeValue → Answer → Type 0
 AreMetOrNoneBy env calling id attribute arguments answers answer =
-    AreMetOrNone env (calling (arguments_view answers)) id (option_copied attribute) (arguments_view arguments) (arguments_view answers) answer
+    AreMetOrNone env (calling (dated_view answers)) id (option_copied attribute) (dated_view arguments) (dated_view answers) answer
 
 -- what a message gives, of whatever catalog a desk is one of
-abbrev pub IsFormatOf : KeptDesk → Text → Option (Bor Text) → FluentArgs NoCustom → Answer → Type 0
+abbrev pub IsFormatOf : KeptDesk → Text → Option (Bor Text) → FluentArgs DateTimeValue → Answer → Type 0
 IsFormatOf desk id attribute arguments answer = ForIts desk (λ catalog. IsReplyTo (catalog_environment catalog) id attribute arguments answer)
 
 -- whether there is what was asked for, of whatever catalog a desk is one of
@@ -145,17 +147,17 @@ abbrev pub IsFoundBy : KeptDesk → Text → Option (Bor Text) → Answer → Ty
 IsFoundBy desk id attribute answer = ForIts desk (λ catalog. IsFound (catalog_environment catalog) id (option_copied attribute) answer)
 
 -- what a message that may call functions gives, of whatever catalog a desk is one of
-abbrev pub IsCallOf : KeptDesk → Text → Option (Bor Text) → FluentArgs NoCustom → FluentArgs NoCustom → Answer → Type 0
+abbrev pub IsCallOf : KeptDesk → Text → Option (Bor Text) → FluentArgs DateTimeValue → FluentArgs DateTimeValue → Answer → Type 0
 IsCallOf desk id attribute arguments answers answer =
     ForIts desk (λ catalog. IsReplyOrCallTo (catalog_environment catalog) (catalog_calling catalog) id attribute arguments answers answer)
 
 -- the calls that are gathered of a message, of whatever catalog a desk is one of
-abbrev pub AreCallsOf : KeptDesk → Text → Option (Bor Text) → FluentArgs NoCustom → FluentArgs NoCustom → Answer → Type 0
+abbrev pub AreCallsOf : KeptDesk → Text → Option (Bor Text) → FluentArgs DateTimeValue → FluentArgs DateTimeValue → Answer → Type 0
 AreCallsOf desk id attribute arguments answers answer =
     ForIts desk (λ catalog. AreMetOrNoneBy (catalog_environment catalog) (catalog_calling catalog) id attribute arguments answers answer)
 
 -- the ids of the messages among these entries, unless memory ran out
-abbrev pub AreMessages : Environment (Unit {0}) NoFunction → List (Text × Meaning NoFunction) → Answer → Type 0
+abbrev pub AreMessages : Environment FluentDateTime Callee → List (Text × Meaning Callee) → Answer → Type 0
 AreMessages env entries answer.Memory = Unit {0}
 AreMessages env entries answer.NoMessage = ⊥
 AreMessages env entries answer.NoPattern = ⊥
@@ -166,7 +168,7 @@ AreMessages env entries (answer.Names text) = string_bytes text ≡ message_line
 AreMessages env entries (answer.Report text) = ⊥
 
 -- the names of the attributes of a message, unless memory ran out
-abbrev pub AreAttributes : Environment (Unit {0}) NoFunction → Text → Answer → Type 0
+abbrev pub AreAttributes : Environment FluentDateTime Callee → Text → Answer → Type 0
 AreAttributes env id answer.Memory = Unit {0}
 AreAttributes env id answer.NoMessage = IsNone (message_in (env.find id))
 AreAttributes env id answer.NoPattern = ⊥
@@ -177,7 +179,7 @@ AreAttributes env id (answer.Names text) = attribute_lines (message_in (env.find
 AreAttributes env id (answer.Report text) = ⊥
 
 -- the variables that a message is shown with, unless memory ran out
-abbrev pub AreVariables : Ids NoFunction → Text → Answer → Type 0
+abbrev pub AreVariables : Ids Callee → Text → Answer → Type 0
 AreVariables ids id answer.Memory = Unit {0}
 AreVariables ids id answer.NoMessage = IsNone (message_in (find ids id))
 AreVariables ids id answer.NoPattern = ⊥
@@ -200,7 +202,7 @@ IsReport sources (answer.Report text) = string_bytes text ≡ report_text source
 
 -- the answer to a question, from an environment, that of messages that call functions, what ids stand for, the entries by their
 -- ids, and the sources
-abbrev pub IsAnswer : Environment (Unit {0}) NoFunction → (Table → Option (Environment (Unit {0}) ℕ)) → Ids NoFunction → List (Text × Meaning NoFunction) → List Text → Question → Answer → Type 0
+abbrev pub IsAnswer : Environment FluentDateTime Callee → (Table → Option (Environment FluentDateTime Callee)) → Ids Callee → List (Text × Meaning Callee) → List Text → Question → Answer → Type 0
 IsAnswer env calling ids entries sources (question.Format id attribute arguments spare) answer = IsReplyTo env id.now attribute arguments answer
 IsAnswer env calling ids entries sources (question.Call id attribute arguments answers spare) answer = IsReplyOrCallTo env calling id.now attribute arguments answers answer
 IsAnswer env calling ids entries sources (question.Calls id attribute arguments answers) answer = AreMetOrNoneBy env calling id.now attribute arguments answers answer

@@ -1,12 +1,14 @@
 -- What a bundle is made of, and what its parts are of that.
-use Rattle.std.specs.Prelude.{◌≡◌, ℕ, List, Option, None, Some, All, IfSome, IsSomeAnd, String, map, option_and_then, option_map, vec_items, string_bytes}
+use Rattle.std.specs.Prelude.{◌≡◌, ℕ, List, [], Option, None, Some, All, IfSome, IsSomeAnd, String, map, option_and_then, option_map, vec_items, string_bytes}
 use Rattle.std.specs.declared.alloc.Global.{Global}
 use denote.Ref.{Bor}
-use Rattle.fluent_answers.specs.Sources.{Settings, environment_of, ids_of}
+use Rattle.fluent_answers.specs.Sources.{Settings, ids_of}
 use Rattle.fluent_ast.specs.declared.Message.{Message}
-use Rattle.fluent_calls.specs.CallsView.{names_of}
+use Rattle.fluent_calls.specs.CallsView.{desk_environment}
 use Rattle.fluent_calls.specs.declared.desk.FunctionDesk.{FunctionDesk}
-use Rattle.fluent_calls.specs.Functions.{Table, answered_at, calling_environment, no_answer}
+use Rattle.fluent_calls.specs.Functions.{Table, calling_environment, unknown_answer, with_functions}
+use Rattle.fluent_date_tables.specs.Tables.{Row}
+use Rattle.fluent_dates.specs.Lookup as dates
 use Rattle.fluent_grammar.specs.Tiling.{runtime_tree}
 use Rattle.fluent_grammar.specs.Words.{Text}
 use Rattle.fluent_ids.specs.Found.{message_in}
@@ -16,18 +18,17 @@ use Rattle.fluent_numerals.specs.Lookup.{Locale, locale_for}
 use Rattle.fluent_plurals.specs.Plurals.{plurals_by}
 use Rattle.fluent_plurals.specs.declared.plurals.LanguagePlurals.{LanguagePlurals}
 use Rattle.fluent_resource.specs.ResourceView.{entries_view}
-use Rattle.fluent_run.specs.DeskView.{desk_ids, environment_by, environment_in}
+use Rattle.fluent_run.specs.DeskView.{desk_ids}
 use Rattle.fluent_run.specs.ResourceIds.{all_by_id}
-use Rattle.fluent_run.specs.RunView.{no_text}
 use Rattle.fluent_tidy_laws.specs.Joined.{lists}
-use Rattle.fluent_value.specs.declared.function.NoFunction.{NoFunction}
-use Rattle.fluent_run.specs.declared.desk.Desk.{Desk}
 use Rattle.fluent_kept.specs.Found.{message_told}
 use Rattle.fluent_kept.specs.declared.desk.Desks.{Desks}
 use Rattle.fluent_kept.specs.declared.desk.Desks.TheVariants as desks
 use Rattle.fluent_kept.specs.declared.desk.KeptDesk.{KeptDesk}
 use Rattle.fluent_kept.specs.declared.resources.Resources.{Resources}
 use Rattle.fluent_kept.specs.declared.sources.Sources.{Sources}
+use Rattle.fluent_date.specs.declared.date_time.FluentDateTime.{FluentDateTime}
+use Rattle.fluent_calls.specs.declared.callee.Callee.{Callee}
 
 -- the settings, the plural rules, the texts of the sources, and how many bytes of the machine's stack reading or an answer may take
 pub record Catalog : Type 0 where
@@ -35,12 +36,18 @@ pub record Catalog : Type 0 where
   pub plurals : LanguagePlurals
   pub sources : List Text
   pub stack : ℕ
+  -- what dates are written by; without it they are written as ISO 8601 has them
+  pub dates : Option Row
   -- the names of the program's functions, if messages call any
   pub functions : Option (List Text)
 
 -- the locale whose numbers are written, if one is named and CLDR says how it writes them
 abbrev pub numerals_of : Sources → Option Locale
 numerals_of s = option_and_then locale_for (option_map vec_items s.numerals)
+
+-- what dates are written by, if a locale is named and CLDR says how it writes them
+abbrev pub dates_of : Sources → Option Row
+dates_of s = option_and_then dates.locale_for (option_map vec_items s.numerals)
 
 abbrev pub settings_of : Sources → Settings
 settings_of s = record { isolating = s.isolating; overriding = s.overriding; numerals = numerals_of s }
@@ -50,34 +57,45 @@ abbrev pub names_in : Sources → Option (List Text)
 names_in s = option_map (λ names. map string_bytes (vec_items names)) s.functions
 
 abbrev pub catalog_of : Sources → Catalog
-catalog_of s = record { settings = settings_of s; plurals = s.plurals; sources = map string_bytes (vec_items s.texts); stack = s.stack.bytes; functions = names_in s }
-
--- what stays the same while the catalog is asked
-abbrev pub catalog_environment : Catalog → Environment (Unit {0}) NoFunction
-catalog_environment c = environment_of (plurals_by c.plurals) no_text c.settings c.sources
-
--- the same, by what a desk has
-abbrev pub plain_environment : Desk LanguagePlurals NoFunction → Environment (Unit {0}) NoFunction
-plain_environment desk = environment_in plurals_by (λ _ S text. text) desk
+catalog_of s = record {
+  settings = settings_of s;
+  plurals = s.plurals;
+  sources = map string_bytes (vec_items s.texts);
+  stack = s.stack.bytes;
+  dates = dates_of s;
+  functions = names_in s;
+}
 
 -- what stays the same while the catalog is asked for messages that call functions of these names, with a table of answers
-abbrev pub catalog_calling_by : Catalog → List Text → Table → Environment (Unit {0}) ℕ
-catalog_calling_by c names table = calling_environment no_answer (plurals_by c.plurals) no_text c.settings c.sources names table
+abbrev pub catalog_calling_by : Catalog → List Text → Table → Environment FluentDateTime Callee
+catalog_calling_by c names table = calling_environment unknown_answer (plurals_by c.plurals) c.settings c.dates c.sources names table
 
 -- the same, if messages call functions
-abbrev pub catalog_calling : Catalog → Table → Option (Environment (Unit {0}) ℕ)
+abbrev pub catalog_calling : Catalog → Table → Option (Environment FluentDateTime Callee)
 catalog_calling c table = option_map (λ names. catalog_calling_by c names table) c.functions
 
--- the same, by what a desk with functions has
-abbrev pub calling_in : FunctionDesk LanguagePlurals → Table → Environment (Unit {0}) ℕ
-calling_in made table = environment_by plurals_by (λ _ S text. text) (answered_at no_answer (names_of made) table) made.desk
+-- the same, as if the program had no functions
+abbrev pub catalog_environment : Catalog → Environment FluentDateTime Callee
+catalog_environment c = catalog_calling_by c [] []
 
--- what the ids of a catalog stand for
-abbrev pub catalog_ids : Catalog → Ids NoFunction
-catalog_ids c = ids_of c.settings.overriding c.sources
+-- the same, by what a desk with functions has
+abbrev pub calling_in : FunctionDesk LanguagePlurals → Table → Environment FluentDateTime Callee
+calling_in made table = desk_environment plurals_by unknown_answer made table
+
+-- the same, by what a desk has, without answers to calls
+abbrev pub plain_environment : FunctionDesk LanguagePlurals → Environment FluentDateTime Callee
+plain_environment made = calling_in made []
+
+-- what the ids of a catalog stand for, with functions of these names
+abbrev pub ids_calling : Catalog → List Text → Ids Callee
+ids_calling c names = with_functions names (ids_of c.settings.overriding c.sources)
+
+-- the same without functions of the program
+abbrev pub catalog_ids : Catalog → Ids Callee
+catalog_ids c = ids_calling c []
 
 -- the messages and terms of a catalog by their ids, one source after the other
-abbrev pub catalog_entries : Catalog → List (Text × Meaning NoFunction)
+abbrev pub catalog_entries : Catalog → List (Text × Meaning Callee)
 catalog_entries c = entries_by_id (lists c.sources)
 
 -- this was read of the catalog
@@ -85,19 +103,19 @@ pub record IsReadOf (read : Resources) (catalog : Catalog) : Type 0 where
   pub sources : catalog_of read.sources.now ≡ catalog
   pub entries : map entries_view (vec_items read.list) ≡ map runtime_tree catalog.sources
 
--- this answers as the catalog does, as if there were no functions
-pub record IsPlainOf (catalog : Catalog) (desk : Desk LanguagePlurals NoFunction) : Type 0 where
-  pub environment : plain_environment desk ≡ catalog_environment catalog
-  pub ids : desk_ids desk ≡ catalog_ids catalog
-  pub entries : all_by_id desk.resources.now ≡ catalog_entries catalog
-  pub stack : desk.stack.bytes ≡ catalog.stack
+-- this answers as the catalog does, as if the program had no functions
+pub record IsPlainOf (catalog : Catalog) (made : FunctionDesk LanguagePlurals) : Type 0 where
+  pub environment : plain_environment made ≡ catalog_environment catalog
+  pub ids : desk_ids made.desk ≡ catalog_ids catalog
+  pub entries : all_by_id made.desk.resources.now ≡ catalog_entries catalog
+  pub stack : made.desk.stack.bytes ≡ catalog.stack
 
 -- this does, of whatever catalog it was that was read
-abbrev pub IsPlainFor : Resources → Desk LanguagePlurals NoFunction → Type 0
-IsPlainFor read desk = (catalog : Catalog) → IsReadOf read catalog → IsPlainOf catalog desk
+abbrev pub IsPlainFor : Resources → FunctionDesk LanguagePlurals → Type 0
+IsPlainFor read made = (catalog : Catalog) → IsReadOf read catalog → IsPlainOf catalog made
 
 -- this answers so still, of whatever catalog it was that was read
-abbrev pub StaysPlain : Resources → Option (Desk LanguagePlurals NoFunction) → Option (Desk LanguagePlurals NoFunction) → Type 0
+abbrev pub StaysPlain : Resources → Option (FunctionDesk LanguagePlurals) → Option (FunctionDesk LanguagePlurals) → Type 0
 StaysPlain read old new = (catalog : Catalog) → IsReadOf read catalog → IfSome old (IsPlainOf catalog) → IfSome new (IsPlainOf catalog)
 
 -- this answers calls of functions of these names as the catalog does
@@ -107,6 +125,13 @@ CallsAs names catalog desk = (table : Table) → calling_in desk table ≡ catal
 -- this does, of whatever catalog it was that was read
 abbrev pub CallsFor : Resources → List (String Global) → FunctionDesk LanguagePlurals → Type 0
 CallsFor read names desk = (catalog : Catalog) → IsReadOf read catalog → CallsAs (map string_bytes names) catalog desk
+
+-- its ids are those of the catalog with functions of these names, and its entries are the catalog's, of whatever catalog it was that was read
+abbrev pub HasIdsFor : Resources → List (String Global) → FunctionDesk LanguagePlurals → Type 0
+HasIdsFor read names made = (catalog : Catalog) → IsReadOf read catalog → desk_ids made.desk ≡ ids_calling catalog (map string_bytes names)
+
+abbrev pub HasEntriesFor : Resources → FunctionDesk LanguagePlurals → Type 0
+HasEntriesFor read made = (catalog : Catalog) → IsReadOf read catalog → all_by_id made.desk.resources.now ≡ catalog_entries catalog
 
 -- these answer as the catalog does
 abbrev pub AreDesksOf : Catalog → Desks → Type 0

@@ -3,7 +3,7 @@
 ghost use Rattle.std.specs.Prelude.{◌≡◌, IfOk, IfSome, option_copied, string_bytes};
 ghost use Rattle.fluent_check.specs.Report.{report_text};
 ghost use Rattle.fluent_run.specs.ResourceIds.{all_by_id};
-ghost use Rattle.fluent_kept.specs.Catalogs.{AreDesksFor, CallsFor, ForIts, IsDeskFor, IsPlainFor, IsPlainOf, StaysDesk, StaysPlain, catalog_entries, catalog_environment, catalog_ids, catalog_of, plain_environment};
+ghost use Rattle.fluent_kept.specs.Catalogs.{AreDesksFor, CallsFor, ForIts, HasEntriesFor, HasIdsFor, IsDeskFor, IsPlainFor, IsPlainOf, StaysDesk, StaysPlain, catalog_entries, catalog_environment, catalog_ids, catalog_of, plain_environment};
 ghost use Rattle.fluent_kept.specs.Answers.{AnswersAsIts, AreAttributes, AreCallsOf, AreMessages, AreMetBy, AreNone, AreVariables, IsCallOf, IsCalledTo, IsFormatOf, IsFoundBy, IsReplyTo, found};
 
 use crate::found::Found;
@@ -14,9 +14,9 @@ use crate::sources::{Sources, borrow_texts};
 use crate::variables::variable_names;
 use fluent_calls::{FunctionDesk, Outcome, Unanswered};
 use fluent_check::check_text;
+use fluent_dates::DateTimeValue;
 use fluent_plurals::LanguagePlurals;
-use fluent_run::Desk;
-use fluent_value::{FluentArgs, NoCustom};
+use fluent_value::FluentArgs;
 use std::alloc::{AllocError, Global};
 
 /// What answers questions. It refers to what was read, and to the sources.
@@ -30,11 +30,14 @@ pub(crate) struct KeptDesk<'r, 's> {
 /// What answers from the ids of the messages and terms.
 #[derive(Drop)]
 pub(crate) enum Desks<'r, 's> {
-    /// Messages call no functions.
-    Plain(Desk<'s, 'r, 's, LanguagePlurals>),
-    /// Messages call functions, which are among the ids. To what asks as if there were none,
-    /// another desk answers: the first such question makes it.
-    Calling(FunctionDesk<'s, 'r, 's, LanguagePlurals>, Option<Desk<'s, 'r, 's, LanguagePlurals>>),
+    /// Messages call no functions of the program.
+    Plain(FunctionDesk<'s, 'r, 's, LanguagePlurals>),
+    /// Messages call functions of the program, which are among the ids. To what asks as if there
+    /// were none, another desk answers: the first such question makes it.
+    Calling(
+        FunctionDesk<'s, 'r, 's, LanguagePlurals>,
+        Option<FunctionDesk<'s, 'r, 's, LanguagePlurals>>,
+    ),
 }
 
 impl<'r, 's> Desks<'r, 's> {
@@ -83,7 +86,7 @@ impl<'r, 's> KeptDesk<'r, 's> {
     }
 
     /// What answers as if there were no functions, if it is there.
-    fn plain(&self) -> Option<&Desk<'s, 'r, 's, LanguagePlurals>>
+    fn plain(&self) -> Option<&FunctionDesk<'s, 'r, 's, LanguagePlurals>>
         ensures { ForIts self.now (λ catalog. IfSome result (λ desk. IsPlainOf catalog desk.now)) }
     {
         match &self.desks {
@@ -99,7 +102,7 @@ impl<'r, 's> KeptDesk<'r, 's> {
         alloc: Global,
         id: &str,
         attribute: Option<&str>,
-        arguments: &FluentArgs<'_, NoCustom>,
+        arguments: &FluentArgs<'_, DateTimeValue>,
         spare: String,
     ) -> Answer
         ensures { IsFormatOf self.now id.now attribute.entry arguments.now result }
@@ -117,8 +120,8 @@ impl<'r, 's> KeptDesk<'r, 's> {
         alloc: Global,
         id: &str,
         attribute: Option<&str>,
-        arguments: &FluentArgs<'_, NoCustom>,
-        answers: &FluentArgs<'_, NoCustom>,
+        arguments: &FluentArgs<'_, DateTimeValue>,
+        answers: &FluentArgs<'_, DateTimeValue>,
         spare: String,
     ) -> Answer
         ensures { IsCallOf self.now id.now attribute.entry arguments.now answers.now result }
@@ -137,8 +140,8 @@ impl<'r, 's> KeptDesk<'r, 's> {
         alloc: Global,
         id: &str,
         attribute: Option<&str>,
-        arguments: &FluentArgs<'_, NoCustom>,
-        answers: &FluentArgs<'_, NoCustom>,
+        arguments: &FluentArgs<'_, DateTimeValue>,
+        answers: &FluentArgs<'_, DateTimeValue>,
     ) -> Answer
         ensures { AreCallsOf self.now id.now attribute.entry arguments.now answers.now result }
     {
@@ -153,7 +156,7 @@ impl<'r, 's> KeptDesk<'r, 's> {
         ensures { IsFoundBy self.now id.now attribute.entry result }
     {
         match &self.desks {
-            Desks::Plain(desk) => found(desk.has(id, attribute), desk.has_message(id)),
+            Desks::Plain(made) => found(made.desk.has(id, attribute), made.desk.has_message(id)),
             Desks::Calling(made, _) => {
                 found(made.desk.has(id, attribute), made.desk.has_message(id))
             }
@@ -186,7 +189,7 @@ impl<'r, 's> KeptDesk<'r, 's> {
         ensures { ForIts self.now (λ catalog. AreVariables (catalog_ids catalog) id.now result) }
     {
         match self.plain() {
-            Some(desk) => variable_names(alloc, desk.ids(), id),
+            Some(made) => variable_names(alloc, made.desk.ids(), id),
             None => Answer::Memory,
         }
     }
@@ -274,25 +277,18 @@ impl<'r, 's> KeptDesk<'r, 's> {
 fn plain_desk<'r, 's>(
     alloc: Global,
     read: &'r Resources<'s>,
-) -> Result<Desk<'s, 'r, 's, LanguagePlurals>, AllocError>
+) -> Result<FunctionDesk<'s, 'r, 's, LanguagePlurals>, AllocError>
     ensures { IfOk result (IsPlainFor read.now) }
 {
-    let sources = read.sources;
-    let desk = Desk::new(
-        alloc,
-        &read.list,
-        sources.settings(),
-        &sources.plurals,
-        sources.stack,
-    )?;
-    Ok(desk)
+    let made = function_desk(alloc, read, &[])?;
+    Ok(made)
 }
 
 /// Makes what answers as if there were no functions, unless it is there, or memory runs out.
 fn keep_plain<'r, 's>(
     alloc: Global,
     read: &'r Resources<'s>,
-    plain: &mut Option<Desk<'s, 'r, 's, LanguagePlurals>>,
+    plain: &mut Option<FunctionDesk<'s, 'r, 's, LanguagePlurals>>,
 )
     ensures { StaysPlain read.now plain.old plain.new }
 {
@@ -314,6 +310,8 @@ fn function_desk<'r, 's>(
     names: &'s [String],
 ) -> Result<FunctionDesk<'s, 'r, 's, LanguagePlurals>, AllocError>
     ensures calls { IfOk result (CallsFor read.now names.now) }
+    ensures ids { IfOk result (HasIdsFor read.now names.now) }
+    ensures entries { IfOk result (HasEntriesFor read.now) }
     ensures stack { IfOk result (λ made. made.desk.stack ≡ read.now.sources.now.stack) }
 {
     let sources = read.sources;
@@ -322,6 +320,7 @@ fn function_desk<'r, 's>(
         &read.list,
         names,
         sources.settings(),
+        sources.dates(),
         &sources.plurals,
         sources.stack,
     )?;
@@ -330,38 +329,42 @@ fn function_desk<'r, 's>(
 
 /// What a message gives for these arguments. The text is written into the memory of `spare`.
 fn formatted(
-    desk: &Desk<'_, '_, '_, LanguagePlurals>,
+    made: &FunctionDesk<'_, '_, '_, LanguagePlurals>,
     alloc: Global,
     id: &str,
     attribute: Option<&str>,
-    arguments: &FluentArgs<'_, NoCustom>,
+    arguments: &FluentArgs<'_, DateTimeValue>,
     spare: String,
 ) -> Answer
-    ensures { IsReplyTo (plain_environment desk.now) id.now attribute.entry arguments.now result }
+    ensures { IsReplyTo (plain_environment made.now) id.now attribute.entry arguments.now result }
 {
-    match desk.format_into(alloc, id, attribute, arguments, spare) {
+    match made.reply::<Unanswered>(alloc, id, attribute, arguments, spare) {
         Ok(Some(reply)) => Answer::Reply(reply),
-        Ok(None) if desk.has_message(id) => Answer::NoPattern,
+        Ok(None) if made.desk.has_message(id) => Answer::NoPattern,
         Ok(None) => Answer::NoMessage,
         Err(_) => Answer::Memory,
     }
 }
 
 /// The ids of the messages of a desk.
-fn messages_of(desk: &Desk<'_, '_, '_, LanguagePlurals>, alloc: Global) -> Answer
-    ensures { AreMessages (plain_environment desk.now) (all_by_id desk.now.resources.now) result }
+fn messages_of(made: &FunctionDesk<'_, '_, '_, LanguagePlurals>, alloc: Global) -> Answer
+    ensures { AreMessages (plain_environment made.now) (all_by_id made.now.desk.resources.now) result }
 {
-    match desk.messages(alloc) {
+    match made.desk.messages(alloc) {
         Ok(text) => Answer::Names(text),
         Err(_) => Answer::Memory,
     }
 }
 
 /// The names of the attributes of a message of a desk.
-fn attributes_of(desk: &Desk<'_, '_, '_, LanguagePlurals>, alloc: Global, id: &str) -> Answer
-    ensures { AreAttributes (plain_environment desk.now) id.now result }
+fn attributes_of(
+    made: &FunctionDesk<'_, '_, '_, LanguagePlurals>,
+    alloc: Global,
+    id: &str,
+) -> Answer
+    ensures { AreAttributes (plain_environment made.now) id.now result }
 {
-    match desk.attributes(alloc, id) {
+    match made.desk.attributes(alloc, id) {
         Ok(Some(text)) => Answer::Names(text),
         Ok(None) => Answer::NoMessage,
         Err(_) => Answer::Memory,
@@ -374,8 +377,8 @@ pub(crate) fn called(
     alloc: Global,
     id: &str,
     attribute: Option<&str>,
-    arguments: &FluentArgs<'_, NoCustom>,
-    answers: &FluentArgs<'_, NoCustom>,
+    arguments: &FluentArgs<'_, DateTimeValue>,
+    answers: &FluentArgs<'_, DateTimeValue>,
     spare: String,
 ) -> Answer
     ensures { IsCalledTo made.now id.now attribute.entry arguments.now answers.now result }
@@ -395,8 +398,8 @@ fn calls_met(
     alloc: Global,
     id: &str,
     attribute: Option<&str>,
-    arguments: &FluentArgs<'_, NoCustom>,
-    answers: &FluentArgs<'_, NoCustom>,
+    arguments: &FluentArgs<'_, DateTimeValue>,
+    answers: &FluentArgs<'_, DateTimeValue>,
 ) -> Answer
     ensures { AreMetBy made.now id.now attribute.entry arguments.now answers.now result }
 {
@@ -410,16 +413,16 @@ fn calls_met(
 
 /// The calls of a message where there are no functions: none.
 fn no_calls(
-    desk: &Desk<'_, '_, '_, LanguagePlurals>,
+    made: &FunctionDesk<'_, '_, '_, LanguagePlurals>,
     alloc: Global,
     id: &str,
     attribute: Option<&str>,
 ) -> Answer
-    ensures { AreNone (plain_environment desk.now) id.now (option_copied attribute.entry) result }
+    ensures { AreNone (plain_environment made.now) id.now (option_copied attribute.entry) result }
 {
-    if desk.has(id, attribute) {
+    if made.desk.has(id, attribute) {
         Answer::Names(String::new(alloc))
-    } else if desk.has_message(id) {
+    } else if made.desk.has_message(id) {
         Answer::NoPattern
     } else {
         Answer::NoMessage

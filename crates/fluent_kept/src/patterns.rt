@@ -4,7 +4,6 @@ ghost use Rattle.std.specs.Prelude.{◌≡◌, option_copied};
 ghost use Rattle.fluent_ids.specs.Found.{lent_message, message_in};
 ghost use Rattle.fluent_meaning.specs.Ids.{find};
 ghost use Rattle.fluent_run.specs.DeskView.{elements_found, plain_ids};
-ghost use Rattle.fluent_value.specs.Value.{error};
 ghost use Rattle.fluent_kept.specs.Catalogs.{ForIts, catalog_environment, plain_environment};
 ghost use Rattle.fluent_kept.specs.Found.{message_told, pattern_of};
 ghost use Rattle.fluent_kept.specs.Writing.{Finds, IsGivenBy, IsWrittenOf, KeepsFound};
@@ -12,12 +11,13 @@ ghost use Rattle.fluent_kept.specs.Writing.{Finds, IsGivenBy, IsWrittenOf, Keeps
 use crate::desk::{Desks, KeptDesk, called};
 use crate::question::Answer;
 use fluent_ast::{Message, Pattern};
+use fluent_calls::{FunctionDesk, Unanswered};
+use fluent_dates::DateTimeValue;
 use fluent_ids::laws::attributes_agree;
 use fluent_ids::{Entry, FluentIds, FluentMessage};
 use fluent_plurals::LanguagePlurals;
-use fluent_run::{Caller, Desk};
-use fluent_value::{FluentArgs, FluentValue, NoCustom, NoFunction};
-use std::alloc::{AllocError, Global};
+use fluent_value::FluentArgs;
+use std::alloc::Global;
 use std::cell::Cell;
 
 /// The place of no message.
@@ -30,7 +30,7 @@ impl<'r, 's> KeptDesk<'r, 's> {
             ≡ message_in ((catalog_environment catalog).find id.now)) }
     {
         match &self.desks {
-            Desks::Plain(desk) => message_named(desk.ids(), id),
+            Desks::Plain(made) => message_named(made.desk.ids(), id),
             Desks::Calling(made, _) => message_named(made.desk.ids(), id),
         }
     }
@@ -80,7 +80,7 @@ impl<'r, 's> KeptDesk<'r, 's> {
         place: usize,
         id: &str,
         attribute: Option<&str>,
-        arguments: &FluentArgs<'_, NoCustom>,
+        arguments: &FluentArgs<'_, DateTimeValue>,
     ) -> Answer
         ensures { IsWrittenOf self.now id.now attribute.entry arguments.now result }
     {
@@ -126,38 +126,21 @@ fn pattern_in<'r, 's>(
     }
 }
 
-/// What calls functions where there are none but `NUMBER`.
-struct NoCaller;
-
-impl Caller<NoFunction> for NoCaller {
-    ghost gives = { λ _ _ _ _. error };
-
-    fn call<'a, 'n>(
-        &self,
-        _alloc: Global,
-        _function: &NoFunction,
-        _positional: &[FluentValue<'a, NoCustom>],
-        _named: &FluentArgs<'n, NoCustom>,
-    ) -> Result<FluentValue<'a, NoCustom>, AllocError> {
-        Ok(FluentValue::Error)
-    }
-}
-
 /// What a message of a desk gives for these arguments.
 fn replied<'r, 's>(
-    desk: &Desk<'s, 'r, 's, LanguagePlurals>,
+    made: &FunctionDesk<'s, 'r, 's, LanguagePlurals>,
     alloc: Global,
     message: &'r Message<&'s str>,
     attribute: Option<&str>,
-    arguments: &FluentArgs<'_, NoCustom>,
+    arguments: &FluentArgs<'_, DateTimeValue>,
 ) -> Answer
-    ensures { IsGivenBy (plain_environment desk.now) (message_told message.entry) attribute.entry
+    ensures { IsGivenBy (plain_environment made.now) (message_told message.entry) attribute.entry
         arguments.now result }
 {
     let Some(pattern) = pattern_in(message, attribute) else {
         return Answer::NoPattern;
     };
-    match desk.resolve(alloc, &NoCaller, pattern, arguments, String::new(alloc)) {
+    match made.write::<Unanswered>(alloc, pattern, arguments, String::new(alloc)) {
         Ok(reply) => Answer::Reply(reply),
         Err(_) => Answer::Memory,
     }

@@ -1,7 +1,8 @@
 //! What a bundle is asked, and what it answers.
 
+use fluent_dates::DateTimeValue;
 use fluent_run::Reply;
-use fluent_value::{FluentArgs, NoCustom};
+use fluent_value::FluentArgs;
 use std::cell::Cell;
 
 /// What a bundle is asked.
@@ -12,7 +13,7 @@ pub enum Question<'a> {
     Format {
         id: &'a str,
         attribute: Option<&'a str>,
-        arguments: FluentArgs<'a, NoCustom>,
+        arguments: FluentArgs<'a, DateTimeValue>,
         spare: Cell<String>,
     },
     /// The same for a message that may call the program's functions, with answers to calls by the
@@ -20,8 +21,8 @@ pub enum Question<'a> {
     Call {
         id: &'a str,
         attribute: Option<&'a str>,
-        arguments: FluentArgs<'a, NoCustom>,
-        answers: FluentArgs<'a, NoCustom>,
+        arguments: FluentArgs<'a, DateTimeValue>,
+        answers: FluentArgs<'a, DateTimeValue>,
         spare: Cell<String>,
     },
     /// Which calls without an answer a message meets whatever any of them gives, with answers to
@@ -29,8 +30,8 @@ pub enum Question<'a> {
     Calls {
         id: &'a str,
         attribute: Option<&'a str>,
-        arguments: FluentArgs<'a, NoCustom>,
-        answers: FluentArgs<'a, NoCustom>,
+        arguments: FluentArgs<'a, DateTimeValue>,
+        answers: FluentArgs<'a, DateTimeValue>,
     },
     /// Whether a message has a value, or an attribute of a name.
     Has {
@@ -50,7 +51,7 @@ pub enum Question<'a> {
         place: usize,
         id: &'a str,
         attribute: Option<&'a str>,
-        arguments: FluentArgs<'a, NoCustom>,
+        arguments: FluentArgs<'a, DateTimeValue>,
     },
     /// The ids of the messages.
     Messages,

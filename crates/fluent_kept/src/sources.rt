@@ -4,8 +4,10 @@ ghost use Rattle.std.specs.Prelude.{◌≡◌, IfOk, map, option_map, string_byt
 ghost use Rattle.fluent_numerals.specs.Views.{locale_view};
 ghost use Rattle.fluent_run.specs.RunView.{settings_view};
 ghost use Rattle.fluent_serve.specs.Texts.{texts};
-ghost use Rattle.fluent_kept.specs.Catalogs.{catalog_of, numerals_of};
+ghost use Rattle.fluent_dates.specs.Lookup.{row_of};
+ghost use Rattle.fluent_kept.specs.Catalogs.{catalog_of, dates_of, numerals_of};
 
+use fluent_dates::LocaleDates;
 use fluent_numerals::LocaleNumerals;
 use fluent_plurals::LanguagePlurals;
 use fluent_run::Settings;
@@ -21,7 +23,8 @@ pub struct Sources {
     pub isolating: bool,
     /// Whether the last entry of an id counts, and not the first.
     pub overriding: bool,
-    /// The tag of the locale whose numbers are written; `None` if they are written plainly.
+    /// The tag of the locale whose numbers and dates are written; `None` if numbers are written
+    /// plainly, and dates as ISO 8601 has them.
     pub numerals: Option<Vec<u8>>,
     /// The names of the program's functions; `None` if messages call none.
     pub functions: Option<Vec<String>>,
@@ -51,6 +54,14 @@ impl Sources {
             Some(tag) => LocaleNumerals::for_tag_bytes(tag),
             None => None,
         }
+    }
+
+    /// How dates are written, if a locale is named and CLDR says how it writes them.
+    pub(crate) fn dates(&self) -> Option<LocaleDates>
+        ensures { row_of result ≡ dates_of self.now }
+    {
+        let tag = self.numerals.as_ref()?;
+        LocaleDates::for_tag_bytes(tag)
     }
 }
 

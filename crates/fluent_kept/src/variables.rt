@@ -10,15 +10,15 @@ ghost use Rattle.fluent_kept.specs.Answers.{AreVariables};
 ghost use Rattle.fluent_kept.specs.Variables.{variable_lines};
 
 use crate::question::Answer;
+use fluent_calls::Callee;
 use fluent_ids::FluentIds;
-use fluent_value::NoFunction;
 use lint_endless::variables_of;
 use std::alloc::{AllocError, Global};
 
 /// The variables that the message of an id is shown with, as an answer.
 pub(crate) fn variable_names<'i, 's: 'i>(
     alloc: Global,
-    ids: &FluentIds<'_, 's, NoFunction>,
+    ids: &FluentIds<'_, 's, Callee>,
     id: &'i str,
 ) -> Answer
     ensures { AreVariables (plain_ids ids.now) id.now result }
@@ -36,7 +36,7 @@ pub(crate) fn variable_names<'i, 's: 'i>(
 /// [`AllocError`] if memory runs out; nothing is kept.
 fn variable_lines<'i, 's: 'i>(
     alloc: Global,
-    ids: &FluentIds<'_, 's, NoFunction>,
+    ids: &FluentIds<'_, 's, Callee>,
     id: &'i str,
 ) -> Result<Option<String>, AllocError>
     ensures { IfOk result (λ text. option_map string_bytes text

@@ -11,11 +11,11 @@ use denote.Ref.{Bor}
 use Rattle.fluent_answers.proofs.InTurn.{entries_by_id-++}
 use Rattle.fluent_ast.specs.View.{entry_view}
 use Rattle.fluent_ast.specs.declared.Entry.{Entry}
+use Rattle.fluent_grammar.specs.Tree as t
 use Rattle.fluent_grammar.specs.Words.{Text}
 use Rattle.fluent_ids.specs.declared.ids.FluentIds.{FluentIds}
 use Rattle.fluent_meaning.specs.Ids.{Meaning, entries_by_id, find}
 use Rattle.fluent_serve.specs.Frames.{ended}
-use Rattle.fluent_value.specs.declared.function.NoFunction.{NoFunction}
 use Rattle.fluent_run.specs.DeskView.{plain_ids}
 use Rattle.fluent_run.specs.Listed.{AddsLine, Lists, SeesOneMore, has_seen}
 use Rattle.fluent_run.specs.Listing.{each_once, entry_ids, is_message, lines, message_lines}
@@ -70,7 +70,16 @@ or_last false false = refl
 any_more : (xs : List Text) (x other : Text) → (bytes_eq x other || list_any (bytes_eq other) xs) ≡ list_any (bytes_eq other) (xs ++ x ∷ [])
 any_more xs x other = ap (λ b. b || list_any (bytes_eq other) xs) (nat_list_eq_equiv.symm x other) ∙ or_last (list_any (bytes_eq other) xs) (bytes_eq other x) ∙ sym (list_any-append (bytes_eq other) xs (x ∷ []))
 
-module _ (ids : FluentIds NoFunction) (before new : List (Text × Meaning NoFunction)) (old now : Listing) (listed : Lists ids before old) where
+-- the id of an entry is the same whatever functions are
+pub ids_alike : (F G : Type 0) (entry : t.Entry) → entry_ids {F = F} (entries_by_id (entry ∷ [])) ≡ entry_ids {F = G} (entries_by_id (entry ∷ []))
+ids_alike F G (t.message m) = refl
+ids_alike F G (t.term m) = refl
+ids_alike F G (t.comment c) = refl
+ids_alike F G (t.group_comment c) = refl
+ids_alike F G (t.resource_comment c) = refl
+ids_alike F G (t.junk s) = refl
+
+module _ {F : Type 0} (ids : FluentIds F) (before new : List (Text × Meaning F)) (old now : Listing) (listed : Lists ids before old) where
   -- no entry more was listed
   pub lists_same : [] ≡ entry_ids new → Lists ids (before ++ new) old
   lists_same none =
@@ -100,22 +109,22 @@ module _ (ids : FluentIds NoFunction) (before new : List (Text × Meaning NoFunc
 
 module _ (items : List (Entry (Bor Text))) (i : ℕ) (item : Entry (Bor Text)) (inside : i < length items) (is : item ≡ get_or items i item) where
   -- the entries of the first nodes by their ids
-  abbrev pub pairs : ℕ → List (Text × Meaning NoFunction)
+  abbrev pub pairs : {F : Type 0} → ℕ → List (Text × Meaning F)
   pairs n = entries_by_id (map (entry_view _ (λ s. s.now)) (take n items))
 
-  pairs_more : pairs (i + 1) ≡ pairs i ++ entries_by_id (entry_view _ (λ s. s.now) item ∷ [])
-  pairs_more =
+  pairs_more : {F : Type 0} → pairs {F = F} (i + 1) ≡ pairs i ++ entries_by_id (entry_view _ (λ s. s.now) item ∷ [])
+  pairs_more {F = F} =
       ap (λ es. entries_by_id (map (entry_view _ (λ s. s.now)) es)) (take_more items i item inside)
       ∙ (ap (λ es. entries_by_id es) (map-append (entry_view _ (λ s. s.now)) (take i items) (get_or items i item ∷ []))
-      ∙ (entries_by_id-++ NoFunction (map (entry_view _ (λ s. s.now)) (take i items)) (entry_view _ (λ s. s.now) (get_or items i item) ∷ [])
+      ∙ (entries_by_id-++ F (map (entry_view _ (λ s. s.now)) (take i items)) (entry_view _ (λ s. s.now) (get_or items i item) ∷ [])
       ∙ rw (← is) refl))
 
   -- what is listed once one more node was looked at
-  pub lists_next : (ids : FluentIds NoFunction) (before : List (Text × Meaning NoFunction)) (now : Listing) →
+  pub lists_next : {F : Type 0} (ids : FluentIds F) (before : List (Text × Meaning F)) (now : Listing) →
       Lists ids ((before ++ pairs i) ++ entries_by_id (entry_view _ (λ s. s.now) item ∷ [])) now → Lists ids (before ++ pairs (i + 1)) now
   lists_next ids before now h = subst (λ es. Lists ids es now) (append_assoc before (pairs i) _ ∙ ap (λ es. before ++ es) (sym pairs_more)) h
 
 -- nothing is listed of nothing
-pub lists_none : (ids : FluentIds NoFunction) (listing : Listing) → string_bytes listing.text ≡ [] → listing.seen.keys ≡ [] → Lists ids [] listing
+pub lists_none : {F : Type 0} (ids : FluentIds F) (listing : Listing) → string_bytes listing.text ≡ [] → listing.seen.keys ≡ [] → Lists ids [] listing
 unfolding each_once
 lists_none ids listing text keys = record { text = text; seen = λ id. rw keys refl }

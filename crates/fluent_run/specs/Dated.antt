@@ -43,6 +43,10 @@ shown_in dates numerals error = formatted_in {S = FluentDateTime} numerals error
 
 -- ---- what messages are resolved in
 
+-- what functions give, for positional values and named arguments
+abbrev pub DateGives : Type 0 → Type 0
+DateGives F = F → List (Value FluentDateTime) → List (Text × Value FluentDateTime) → Value FluentDateTime
+
 abbrev pub datetime : DateTimeFunction
 datetime = record {}
 
@@ -50,12 +54,12 @@ datetime = record {}
 abbrev pub with_datetime : Ids DateTimeFunction → Ids DateTimeFunction
 with_datetime ids = with_id false ids (codes "DATETIME", function datetime)
 
--- What stays the same: no functions but `NUMBER` and `DATETIME`, no transform, and no formatter but that of locales. A date that no
--- locale writes is shown as ISO 8601 has it.
-abbrev pub environment_with : Plurals → Settings → Option Row → Ids DateTimeFunction → Environment FluentDateTime DateTimeFunction
-environment_with plurals settings dates ids = record {
+-- What stays the same, by what functions give: no transform, and no formatter but that of locales. A date that no locale writes is shown
+-- as ISO 8601 has it.
+abbrev pub environment_with : {F : Type 0} → Plurals → Settings → Option Row → DateGives F → Ids F → Environment FluentDateTime F
+environment_with plurals settings dates gives ids = record {
   find = find ids;
-  call = λ f. date_called;
+  call = gives;
   isolating = settings.isolating;
   transformed = λ s. s;
   formatted = shown_in dates settings.numerals;
@@ -63,10 +67,10 @@ environment_with plurals settings dates ids = record {
   shown = iso_text;
 }
 
--- the same by sources
+-- the same by sources, with no functions but `NUMBER` and `DATETIME`
 abbrev pub dated_environment : Plurals → Settings → Option Row → List Text → Environment FluentDateTime DateTimeFunction
 dated_environment plurals settings dates sources =
-    environment_with plurals settings dates (with_datetime (ids_of settings.overriding sources))
+    environment_with plurals settings dates (λ f. date_called) (with_datetime (ids_of settings.overriding sources))
 
 -- ---- by the code's own values
 
@@ -80,15 +84,15 @@ AreDatedIds overriding resources ids = plain_ids ids ≡ with_datetime (ids_adde
 
 -- by what a plural source means, its categories
 module _ {M : Type 0} (category_of : M → Plurals) where
-  -- what patterns are resolved in, with what ids stand for
-  abbrev pub dating_view : Ids DateTimeFunction → Dating M → Environment FluentDateTime DateTimeFunction
-  dating_view ids d = environment_with (category_of d.plurals.now) (settings_view d.settings) (row_of d.dates) ids
+  -- what patterns are resolved in, with what ids stand for, and by what functions give
+  abbrev pub dating_view : {F L : Type 0} → (L → DateGives F) → Ids F → Dating M L → Environment FluentDateTime F
+  dating_view gives ids d = environment_with (category_of d.plurals.now) (settings_view d.settings) (row_of d.dates) (gives d.caller.now) ids
 
-  -- the same by sources
-  abbrev pub dating_of : Dating M → List Text → Environment FluentDateTime DateTimeFunction
+  -- the same by sources, with no functions but `NUMBER` and `DATETIME`
+  abbrev pub dating_of : {L : Type 0} → Dating M L → List Text → Environment FluentDateTime DateTimeFunction
   dating_of d sources = dated_environment (category_of d.plurals.now) (settings_view d.settings) (row_of d.dates) sources
 
   -- this is what a message of sources gives for these values
-  abbrev pub IsDatedReply : Dating M → List Text → Text → Option (Bor Text) → FluentArgs DateTimeValue → Option code.Reply → Type 0
+  abbrev pub IsDatedReply : {L : Type 0} → Dating M L → List Text → Text → Option (Bor Text) → FluentArgs DateTimeValue → Option code.Reply → Type 0
   IsDatedReply d sources id attribute values reply =
       option_map reply_view reply ≡ message_reply (dating_of d sources) id (option_copied attribute) (dated_view values)

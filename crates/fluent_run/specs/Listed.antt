@@ -24,11 +24,11 @@ abbrev pub has_seen : Listing → Text → Bool
 has_seen listing id = contains_by (λ seen. bytes_eq id seen.now) listing.seen
 
 -- the line of an id that is new and stands for a message
-abbrev pub line_if_new : FluentIds NoFunction → Listing → Text → Text
+abbrev pub line_if_new : {F : Type 0} → FluentIds F → Listing → Text → Text
 line_if_new ids listing id = if not (has_seen listing id) && is_message (find (plain_ids ids)) id then ended id else []
 
 -- that line was added
-abbrev pub AddsLine : FluentIds NoFunction → Text → Listing → Listing → Type 0
+abbrev pub AddsLine : {F : Type 0} → FluentIds F → Text → Listing → Listing → Type 0
 AddsLine ids id old new = string_bytes new.text ≡ string_bytes old.text ++ line_if_new ids old id
 
 -- the ids that were seen are those of before, and this one
@@ -36,10 +36,10 @@ abbrev pub SeesOneMore : Text → Listing → Listing → Type 0
 SeesOneMore id old new = (other : Text) → has_seen new other ≡ (bytes_eq id other || has_seen old other)
 
 -- these entries were listed
-pub record Lists (ids : FluentIds NoFunction) (entries : List (Text × Meaning NoFunction)) (listing : Listing) : Type 0 where
+pub record Lists {F : Type 0} (ids : FluentIds F) (entries : List (Text × Meaning F)) (listing : Listing) : Type 0 where
   pub text : string_bytes listing.text ≡ message_lines (find (plain_ids ids)) entries
   pub seen : (id : Text) → has_seen listing id ≡ list_any (bytes_eq id) (entry_ids entries)
 
 -- these were, after whichever were before
-abbrev pub ListsMore : FluentIds NoFunction → List (Text × Meaning NoFunction) → Listing → Listing → Type 0
-ListsMore ids entries old new = (before : List (Text × Meaning NoFunction)) → Lists ids before old → Lists ids (before ++ entries) new
+abbrev pub ListsMore : {F : Type 0} → FluentIds F → List (Text × Meaning F) → Listing → Listing → Type 0
+ListsMore {F} ids entries old new = (before : List (Text × Meaning F)) → Lists ids before old → Lists ids (before ++ entries) new

@@ -15,17 +15,18 @@ use fluent_numerals::LocaleNumerals;
 use fluent_progress::Context;
 use fluent_text::stack::StackBudget;
 use fluent_value::{
-    FluentArgs, FluentValue, MemoizerKind, NoCustom, NoFunction, ValueFormatter, ValueScope,
-    builtins,
+    FluentArgs, FluentType, FluentValue, MemoizerKind, NoCustom, NoFunction, ValueFormatter,
+    ValueScope, builtins,
 };
 use std::alloc::{AllocError, Global};
 use std::borrow::CowStr;
 
-/// What calls the functions of messages, each of which is an `F` among the ids of a desk.
-pub trait Caller<F> {
+/// What calls the functions of messages, each of which is an `F` among the ids of a desk. Values of
+/// the program's own are of the type `C`.
+pub trait Caller<C: FluentType, F> {
     /// What a function gives for positional values and named arguments.
-    ghost gives: { Self → F → List (Value (Unit {0})) → List (Text × Value (Unit {0}))
-        → Value (Unit {0}) };
+    ghost gives: { Self → F → List (Value C.Meaning) → List (Text × Value C.Meaning)
+        → Value C.Meaning };
 
     /// What a function gives for these arguments.
     ///
@@ -35,16 +36,16 @@ pub trait Caller<F> {
         &self,
         alloc: Global,
         function: &F,
-        positional: &[FluentValue<'a, NoCustom>],
-        named: &FluentArgs<'n, NoCustom>,
-    ) -> Result<FluentValue<'a, NoCustom>, AllocError>
-        ensures { IfOk result (IsCallResult (λ c. tt) (gives self.now function.now) positional.now named.now) };
+        positional: &[FluentValue<'a, C>],
+        named: &FluentArgs<'n, C>,
+    ) -> Result<FluentValue<'a, C>, AllocError>
+        ensures { IfOk result (IsCallResult C.meaning (gives self.now function.now) positional.now named.now) };
 }
 
 /// What calls functions if there are none but `NUMBER`.
 pub(crate) struct NoCaller;
 
-impl Caller<NoFunction> for NoCaller {
+impl Caller<NoCustom, NoFunction> for NoCaller {
     ghost gives = { λ _ _ _ _. error };
 
     fn call<'a, 'n>(
@@ -69,7 +70,7 @@ pub struct Asking<'x, 'b, 'r, 's, M, F, L> {
     pub alloc: Global,
 }
 
-impl<'x, 'b, 'r, 's, M: MemoizerKind, F, L: Caller<F>> ValueScope<NoCustom>
+impl<'x, 'b, 'r, 's, M: MemoizerKind, F, L: Caller<NoCustom, F>> ValueScope<NoCustom>
     for Asking<'x, 'b, 'r, 's, M, F, L> {
     ghost has_formatter = { λ asking. is_some asking.desk.now.settings.numerals };
 
@@ -128,7 +129,7 @@ impl<'x, 'b, 'r, 's, M: MemoizerKind, F, L: Caller<F>> ValueScope<NoCustom>
     }
 }
 
-impl<'x, 'b, 'r, 's, M: MemoizerKind, F, L: Caller<F>> Context<NoCustom, F>
+impl<'x, 'b, 'r, 's, M: MemoizerKind, F, L: Caller<NoCustom, F>> Context<NoCustom, F>
     for Asking<'x, 'b, 'r, 's, M, F, L> {
     ghost environment = { asking_view M.category_of M.stringified L.gives };
 

@@ -40,8 +40,10 @@ pub struct Desk<'b, 'r, 's, M, F = NoFunction> {
     resources: &'r [FluentResource<'s>],
     /// What ids stand for.
     pub ids: FluentIds<'r, 's, F>,
-    pub(crate) plurals: &'b M,
-    pub(crate) settings: Settings,
+    /// The plural source.
+    pub plurals: &'b M,
+    /// How answers are made.
+    pub settings: Settings,
     /// How much of the machine's stack an answer may take.
     pub stack: StackBudget,
 }
@@ -101,13 +103,38 @@ impl<'b, 'r, 's, M: MemoizerKind, F: Drop> Desk<'b, 'r, 's, M, F> {
         &self.ids
     }
 
+    /// The ids of the messages, each in a line that ends in LF, in the order of their first entries
+    /// in the resources. An id is there if what counts of it is a message.
+    ///
+    /// # Errors
+    /// [`AllocError`] if memory runs out; nothing is kept.
+    pub fn messages(&self, alloc: Global) -> Result<String, AllocError>
+        ensures { IfOk result (λ text. string_bytes text ≡ messages_in self.now) }
+    {
+        message_lines(alloc, &self.ids, self.resources)
+    }
+
+    /// The names of a message's attributes, each in a line that ends in LF, in their order. A name
+    /// that the message has twice is there twice. `None` if there is no message of the id.
+    ///
+    /// # Errors
+    /// [`AllocError`] if memory runs out; nothing is kept.
+    pub fn attributes(&self, alloc: Global, id: &str) -> Result<Option<String>, AllocError>
+        ensures { IfOk result (λ text. option_map string_bytes text ≡ attributes_in self.now id.now) }
+    {
+        let Some(message) = self.ids.get_message(id) else {
+            return Ok(None);
+        };
+        Ok(Some(name_lines(alloc, &message)?))
+    }
+
     /// What a pattern gives for these arguments, with what calls its functions. It is written into
     /// the memory of `text`, whose old bytes are lost.
     ///
     /// # Errors
     /// [`AllocError`] if memory runs out, if the pattern nests too deep for the desk's budget of
     /// the machine's stack, or if a call of a function ends resolving; nothing is kept.
-    pub fn resolve<'x, L: Caller<F>>(
+    pub fn resolve<'x, L: Caller<NoCustom, F>>(
         &'x self,
         alloc: Global,
         caller: &'x L,
@@ -151,31 +178,6 @@ impl<'b, 'r, 's, M: MemoizerKind> Desk<'b, 'r, 's, M> {
     {
         let ids = ids_of(alloc, resources, settings.overriding)?;
         Ok(Desk::of(ids, resources, settings, plurals, stack))
-    }
-
-    /// The ids of the messages, each in a line that ends in LF, in the order of their first entries
-    /// in the resources. An id is there if what counts of it is a message.
-    ///
-    /// # Errors
-    /// [`AllocError`] if memory runs out; nothing is kept.
-    pub fn messages(&self, alloc: Global) -> Result<String, AllocError>
-        ensures { IfOk result (λ text. string_bytes text ≡ messages_in self.now) }
-    {
-        message_lines(alloc, &self.ids, self.resources)
-    }
-
-    /// The names of a message's attributes, each in a line that ends in LF, in their order. A name
-    /// that the message has twice is there twice. `None` if there is no message of the id.
-    ///
-    /// # Errors
-    /// [`AllocError`] if memory runs out; nothing is kept.
-    pub fn attributes(&self, alloc: Global, id: &str) -> Result<Option<String>, AllocError>
-        ensures { IfOk result (λ text. option_map string_bytes text ≡ attributes_in self.now id.now) }
-    {
-        let Some(message) = self.ids.get_message(id) else {
-            return Ok(None);
-        };
-        Ok(Some(name_lines(alloc, &message)?))
     }
 
     /// What a message gives for these arguments: its value, or its first attribute of a name.

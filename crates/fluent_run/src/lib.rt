@@ -19,9 +19,9 @@ mod settings;
 
 pub use answering::{run, run_before_exit};
 pub use arguments::valued_arguments;
-pub use caller::{Asking, Caller};
+pub use caller::Caller;
 pub use catalog::ids_of;
-pub use dated::Dating;
+pub use dated::{DateTimeCaller, Dating};
 pub use desk::Desk;
 pub use fluent_serve::serve::RunError;
 pub use fluent_serve::stream::{FromRead, FromWrite, Sink, Source};

@@ -14,7 +14,6 @@ ghost use Rattle.fluent_run.specs.ResourceIds.{all_by_id};
 use fluent_ast::{Entry, Resource};
 use fluent_ids::{FluentIds, FluentMessage};
 use fluent_resource::FluentResource;
-use fluent_value::NoFunction;
 use std::alloc::{AllocError, Global};
 use std::collections::HashSet;
 
@@ -38,7 +37,7 @@ impl<'s> Listing<'s> {
     }
 
     /// Lists an id, if it is new and stands for a message.
-    fn add(&mut self, ids: &FluentIds<'_, 's, NoFunction>, id: &'s str) -> Result<(), AllocError>
+    fn add<F>(&mut self, ids: &FluentIds<'_, 's, F>, id: &'s str) -> Result<(), AllocError>
         ensures text { OnOk result (AddsLine ids.now id.now self.old self.new) }
         ensures seen { OnOk result (SeesOneMore id.now self.old self.new) }
     {
@@ -49,9 +48,9 @@ impl<'s> Listing<'s> {
     }
 
     /// Lists the messages and terms of a tree.
-    fn add_all(
+    fn add_all<F>(
         &mut self,
-        ids: &FluentIds<'_, 's, NoFunction>,
+        ids: &FluentIds<'_, 's, F>,
         tree: &Resource<&'s str>,
     ) -> Result<(), AllocError>
         ensures { OnOk result (ListsMore ids.now (entries_by_id (entries_in tree.now)) self.old self.new) }
@@ -80,9 +79,9 @@ fn id_of<'s>(entry: &Entry<&'s str>) -> Option<&'s str>
 ///
 /// # Errors
 /// [`AllocError`] if memory runs out; nothing is kept.
-pub(crate) fn message_lines<'s>(
+pub(crate) fn message_lines<'s, F>(
     alloc: Global,
-    ids: &FluentIds<'_, 's, NoFunction>,
+    ids: &FluentIds<'_, 's, F>,
     resources: &[FluentResource<'s>],
 ) -> Result<String, AllocError>
     ensures { IfOk result (λ text. string_bytes text

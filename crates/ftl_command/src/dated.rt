@@ -19,7 +19,7 @@ use crate::message::{Formatted, written};
 use crate::plurals::RunRules;
 use fluent_date::FluentDateTime;
 use fluent_dates::{DateTimeValue, LocaleDates};
-use fluent_run::Dating;
+use fluent_run::{DateTimeCaller, Dating, StackBudget};
 use fluent_value::{FluentArgs, FluentValue};
 use ftl_arguments::Format;
 use std::alloc::{AllocError, Global};
@@ -69,6 +69,8 @@ pub(crate) fn format_dated(
         settings: settings_of(format, rules),
         dates: dates_of(format.locale, format.plain_numbers),
         plurals: &rules.plurals,
+        caller: &DateTimeCaller,
+        stack: StackBudget::PROGRAM,
         alloc,
     };
     let values = dated_arguments(alloc, &format.arguments)?;

@@ -2,7 +2,7 @@ use Rattle.std.proofs.Common.{◌≡◌, ◌∙◌, [], arith, ap, map, subst}
 use Rattle.std.specs.Prelude.{All}
 use Rattle.std.proofs.lemmas.List.Sorted.{All-permutation, IsPermutation-sym}
 use Rattle.std.proofs.lemmas.Result.{IfErr-weaker, IfOk-weaker, on_ok_weaker}
-use Rattle.fluent_run.specs.DeskView.{arguments_view}
+use Rattle.fluent_run.specs.Dated.{dated_view}
 use Rattle.fluent_value.specs.Args.{all_set}
 use Rattle.fluent_c.specs.Arguments.{AreRefusedFor, IsTaken, pair_of}
 use Rattle.fluent_c.proofs.Given.{before_the_first, refused_on, same_refused}
@@ -14,7 +14,7 @@ returns-clause-set c =
     let given = c.args.given.now in
     let sorted = c.in_ok-sorted.sorted.items in
     let same = ap (λ xs. all_set [] (map pair_of xs)) c.deref.ensures.value ∙ sets_sorted pair_of given sorted c.in_ok-sorted.ensures.stable [] in
-    IfOk-weaker c.set_all-2.result (λ arguments. arguments_view arguments ≡ all_set [] (map pair_of c.deref.result.now)) (λ arguments. arguments_view arguments ≡ all_set [] (map pair_of given)) (λ arguments e. e ∙ same)
+    IfOk-weaker c.set_all-2.result (λ arguments. dated_view arguments ≡ all_set [] (map pair_of c.deref.result.now)) (λ arguments. dated_view arguments ≡ all_set [] (map pair_of given)) (λ arguments e. e ∙ same)
     c.set_all-2.ensures.set
 
 pub returns-clause-taken : goal.returns-clause-taken

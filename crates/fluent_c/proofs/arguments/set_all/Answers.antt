@@ -1,7 +1,7 @@
 use Rattle.std.proofs.Common.{[], ◌∙◌, map, ap, subst}
 use Rattle.std.proofs.lemmas.List.{take_all}
 use Rattle.std.proofs.lemmas.List.Elements.{All-more, Contains-get_or}
-use Rattle.fluent_run.specs.DeskView.{arguments_view}
+use Rattle.fluent_run.specs.Dated.{dated_view}
 use Rattle.fluent_value.specs.Args.{all_set}
 use Rattle.fluent_c.specs.Arguments.{AreRefusedFor, AreTaken, IsTaken, pair_of}
 use Rattle.fluent_c.proofs.Given.{refused_on, set-next}
@@ -11,7 +11,7 @@ pub loop-argument-preserved : goal.loop-argument-preserved
 loop-argument-preserved c = record {
   set =
       c.in_ok-set.ensures.set
-      ∙ set-next (arguments_view c.loop-argument.arguments) c.args.given.now c.loop-argument.argument-index _ c.loop-argument-test.true c.loop-argument.invariant.set;
+      ∙ set-next (dated_view c.loop-argument.arguments) c.args.given.now c.loop-argument.argument-index _ c.loop-argument-test.true c.loop-argument.invariant.set;
   taken = All-more IsTaken c.args.given.now c.loop-argument.argument-index _ c.loop-argument-test.true c.loop-argument.invariant.taken c.in_ok-set.ensures.taken;
 }
 

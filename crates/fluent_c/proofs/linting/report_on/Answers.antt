@@ -1,9 +1,8 @@
-use Rattle.std.proofs.Common.{◌≡◌, ◌∙◌, List, Option, Some, ap, option_map, sym}
+use Rattle.std.proofs.Common.{◌≡◌, ◌∙◌, List, Some, ap}
 use Rattle.std.proofs.lemmas.Result.{IfOk-weaker}
 use Rattle.fluent_grammar.specs.Words.{Text}
 use Rattle.fluent_lint.specs.LintReport.{LintReport, Output, lint_report}
 use Rattle.fluent_lint.specs.LintView.{output_view, report_view}
-use Rattle.fluent_lint.specs.Reports.{options_view}
 use Rattle.fluent_resource.specs.Sources.{texts}
 use Rattle.lint_findings.specs.Findings.{Options}
 use Rattle.fluent_c.specs.Linting.{options_asked, output_asked, files_given, report_in}

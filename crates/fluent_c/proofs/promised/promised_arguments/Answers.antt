@@ -2,7 +2,7 @@ use Rattle.std.proofs.Common.{[], ◌∙◌, arith, map, ap, length, subst, sym}
 use Rattle.std.proofs.lemmas.Bool.{eqb-false}
 use Rattle.std.proofs.lemmas.List.{take_all}
 use Rattle.std.proofs.lemmas.List.Elements.{All-get_or, All-more, Contains-get_or}
-use Rattle.fluent_run.specs.DeskView.{arguments_view}
+use Rattle.fluent_run.specs.Dated.{dated_view}
 use Rattle.fluent_value.specs.Args.{all_set}
 use Rattle.fluent_c.specs.Arguments.{AreRefusedFor, AreTaken, HasTexts, IsTaken, pair_of}
 use Rattle.fluent_c.proofs.Given.{before_the_first, refused_on, set-next}
@@ -12,7 +12,7 @@ pub loop-argument-preserved : goal.loop-argument-preserved
 loop-argument-preserved c = record {
   set =
       c.in_ok-set_promised.ensures.set
-      ∙ set-next (arguments_view c.loop-argument.arguments) c.args.given.now c.loop-argument.argument-index _ c.loop-argument-test.true c.loop-argument.invariant.set;
+      ∙ set-next (dated_view c.loop-argument.arguments) c.args.given.now c.loop-argument.argument-index _ c.loop-argument-test.true c.loop-argument.invariant.set;
   taken = All-more IsTaken c.args.given.now c.loop-argument.argument-index _ c.loop-argument-test.true c.loop-argument.invariant.taken c.in_ok-set_promised.ensures.taken;
 }
 

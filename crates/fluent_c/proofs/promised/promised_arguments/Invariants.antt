@@ -1,12 +1,12 @@
 -- The arguments before the index are set.
 use Rattle.std.proofs.Common.{◌≡◌, [], map, take}
-use Rattle.fluent_run.specs.DeskView.{arguments_view}
+use Rattle.fluent_run.specs.Dated.{dated_view}
 use Rattle.fluent_value.specs.Args.{all_set}
 use Rattle.fluent_c.specs.Arguments.{AreTaken, pair_of}
 use Rattle.fluent_c.proofs.promised.promised_arguments.Given as goal
 
 abbrev pub invariant-loop-argument : goal.invariant-loop-argument
 invariant-loop-argument l = record {
-  set : arguments_view l.arguments ≡ all_set [] (map pair_of (take l.argument-index l.given));
+  set : dated_view l.arguments ≡ all_set [] (map pair_of (take l.argument-index l.given));
   taken : AreTaken (take l.argument-index l.given);
 }

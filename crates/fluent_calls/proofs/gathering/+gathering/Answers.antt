@@ -2,7 +2,7 @@ use Rattle.std.proofs.Common.{rules, ◌≡◌, ap, ◌∙◌}
 use Rattle.std.specs.Prelude.{string_bytes}
 use Rattle.fluent_ast.specs.Borrowed.{name_of}
 use Rattle.fluent_progress.specs.Views.{resolved_in}
-use Rattle.fluent_run.specs.DeskView.{arguments_view}
+use Rattle.fluent_run.specs.Dated.{dated_view}
 use Rattle.fluent_calls.specs.GatheringView.{arguments_in}
 use Rattle.fluent_calls.proofs.Gathered.{lines-of-known, lines-of-unknown, none-known, these-known}
 use Rattle.fluent_calls.proofs.gathering.+gathering.Goals as goal
@@ -12,7 +12,7 @@ pub gather_call-returns-clause-lines : goal.gather_call-returns-clause-lines
 gather_call-returns-clause-lines g t c =
     let find = (resolved_in c.args.place.now).find in
     let given = arguments_in c.args.place.now in
-    let table = arguments_view c.args.answers.now in
+    let table = dated_view c.args.answers.now in
     let id = name_of c.args.id.now in
     let held = string_bytes c.args.found.now in
     let positional = string_bytes c.gather_values.new.found in

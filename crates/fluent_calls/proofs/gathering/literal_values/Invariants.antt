@@ -1,6 +1,6 @@
 use Rattle.std.proofs.Common.{◌≡◌, [], drop, map}
 use Rattle.fluent_ast.specs.View.{named_view, nameds_of}
-use Rattle.fluent_run.specs.DeskView.{arguments_view}
+use Rattle.fluent_run.specs.Dated.{dated_view}
 use Rattle.fluent_value.specs.Args.{all_set}
 use Rattle.fluent_calls.specs.Gathering.{literals}
 use Rattle.fluent_calls.proofs.gathering.literal_values.Given as goal
@@ -9,4 +9,4 @@ use Rattle.fluent_calls.proofs.gathering.literal_values.Given as goal
 abbrev pub invariant-loop-argument : goal.invariant-loop-argument
 invariant-loop-argument g l =
     let view = named_view _ (λ s. s.now) in
-    all_set (arguments_view l.values) (literals (nameds_of (map view (drop l.argument-index l.argument-items)))) ≡ all_set [] (literals (nameds_of (map view l.argument-items)))
+    all_set (dated_view l.values) (literals (nameds_of (map view (drop l.argument-index l.argument-items)))) ≡ all_set [] (literals (nameds_of (map view l.argument-items)))

@@ -10,10 +10,10 @@ use Rattle.fluent_run.proofs.ResourceIds.{all_by_id-next}
 use Rattle.fluent_run.proofs.listing.message_lines.Goals as goal
 
 pub loop-resource-init : goal.loop-resource-init
-loop-resource-init c = lists_none c.args.ids.now c.new-listing.result c.new-listing.ensures.text c.new-listing.ensures.seen
+loop-resource-init g c = lists_none c.args.ids.now c.new-listing.result c.new-listing.ensures.text c.new-listing.ensures.seen
 
 pub loop-resource-preserved : goal.loop-resource-preserved
-loop-resource-preserved c =
+loop-resource-preserved g c =
     let rs = c.args.resources.now in
     let i = c.loop-resource.resource-index in
     let before = all_by_id (take i rs) in
@@ -22,6 +22,6 @@ loop-resource-preserved c =
     (c.in_ok-add_all.ensures before c.loop-resource.invariant)
 
 pub returns : goal.returns
-returns c =
+returns g c =
     c.loop-resource.invariant.text
     ∙ ap (λ rs. message_lines (find (plain_ids c.args.ids.now)) (all_by_id rs)) (take_all c.loop-resource.resource-index c.args.resources.now c.loop-resource-test.false)

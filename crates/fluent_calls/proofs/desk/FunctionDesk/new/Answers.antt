@@ -7,4 +7,5 @@ returns g c =
     record {
       desk = record { ids = made.ids ∙ c.in_ok-ids.ensures; resources = made.resources; settings = made.settings; plurals = made.plurals; stack = made.stack };
       names = refl;
+      dates = refl;
     }

@@ -1,6 +1,6 @@
 use Rattle.std.proofs.Common.{subst, sym}
 use Rattle.std.specs.Prelude.{option_copied, option_map}
-use Rattle.fluent_run.specs.DeskView.{arguments_view}
+use Rattle.fluent_run.specs.Dated.{dated_view}
 use Rattle.fluent_kept.specs.Answers.{IsReplyOrCall, IsReplyTo}
 use Rattle.fluent_kept.specs.Catalogs.{AreDesksOf, catalog_calling_by, catalog_environment}
 use Rattle.fluent_kept.proofs.Calling.{called-as}
@@ -11,7 +11,7 @@ returns-in-Plain c = λ catalog is.
     let desks = subst (AreDesksOf catalog) c.in-Plain.is is.desks in
     let args = c.args in
     let reply = subst (λ env. IsReplyTo env args.id.now args.attribute args.arguments.now c.formatted.result) desks.1.environment c.formatted.ensures in
-    subst (λ functions. IsReplyOrCall (catalog_environment catalog) (option_map (λ names. catalog_calling_by catalog names (arguments_view args.answers.now)) functions) args.id.now (option_copied args.attribute) (arguments_view args.arguments.now) (arguments_view args.answers.now) c.formatted.result)
+    subst (λ functions. IsReplyOrCall (catalog_environment catalog) (option_map (λ names. catalog_calling_by catalog names (dated_view args.answers.now)) functions) args.id.now (option_copied args.attribute) (dated_view args.arguments.now) (dated_view args.answers.now) c.formatted.result)
     (sym desks.0) reply
 
 pub returns-in-Calling : goal.returns-in-Calling

@@ -1,6 +1,6 @@
 use Rattle.std.proofs.Common.{subst, sym}
 use Rattle.std.specs.Prelude.{option_copied, option_map}
-use Rattle.fluent_run.specs.DeskView.{arguments_view}
+use Rattle.fluent_run.specs.Dated.{dated_view}
 use Rattle.fluent_kept.specs.Answers.{AreMetOrNone, AreNone}
 use Rattle.fluent_kept.specs.Catalogs.{AreDesksOf, catalog_calling_by, catalog_environment}
 use Rattle.fluent_kept.proofs.Calling.{met-as}
@@ -12,8 +12,8 @@ returns-in-Plain c = λ catalog is.
     let args = c.args in
     let id = args.id.now in
     let attribute = option_copied args.attribute in
-    let arguments = arguments_view args.arguments.now in
-    let table = arguments_view args.answers.now in
+    let arguments = dated_view args.arguments.now in
+    let table = dated_view args.answers.now in
     let none = subst (λ env. AreNone env id attribute c.no_calls.result) desks.1.environment c.no_calls.ensures in
     subst (λ functions. AreMetOrNone (catalog_environment catalog) (option_map (λ names. catalog_calling_by catalog names table) functions) id attribute arguments table c.no_calls.result)
     (sym desks.0) none

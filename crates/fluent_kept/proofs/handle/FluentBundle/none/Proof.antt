@@ -10,7 +10,7 @@ use Rattle.fluent_kept.proofs.handle.FluentBundle.none.Statement.{statement}
 use Rattle.fluent_kept.proofs.handle.FluentBundle.none.Code as code
 
 abbrev nothing_held : the_row.Denot
-nothing_held = record { held = false; sources = null_ptr; read = null_ptr; desk = null_ptr; catalog = record { settings = record { isolating = false; overriding = false; numerals = None }; plurals = root; sources = []; stack = 0; functions = None } }
+nothing_held = record { held = false; sources = null_ptr; read = null_ptr; desk = null_ptr; catalog = record { settings = record { isolating = false; overriding = false; numerals = None }; plurals = root; sources = []; stack = 0; dates = None; functions = None } }
 
 pub none_spec : {M : Type 1} → statement M
 none_spec 𝓤 𝓛 𝓜 𝓡 wired =

@@ -6,4 +6,4 @@ use Rattle.fluent_run.proofs.listing.Listing.add_all.Given as goal
 
 -- the entries so far were listed
 abbrev pub invariant-loop-entry : goal.invariant-loop-entry
-invariant-loop-entry l = ListsMore l.ids (entries_by_id (map (entry_view _ (λ s. s.now)) (take l.entry-index l.entry-items))) l.fn.self l.self
+invariant-loop-entry g l = ListsMore l.ids (entries_by_id (map (entry_view _ (λ s. s.now)) (take l.entry-index l.entry-items))) l.fn.self l.self
