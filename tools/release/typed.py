@@ -26,15 +26,16 @@ NAMED = re.compile(r'Make this the file `([\w./-]+)`[^:]*:$')
 
 
 def blocks(text: str):
-    """The blocks of a page, as (kind, lines, the paragraph before). The kind of an indented block is `sh`."""
+    """The blocks of a page, as (kind, lines, the paragraph before). The kind of an indented block, which may have empty
+    lines, is `sh`."""
     fence, block, before, paragraph = '', [], '', []
-    for line in [*text.split('\n'), '']:
+    for line in [*text.split('\n'), '.']:
         if fence and line != '```':
             block.append(line)
         elif fence:
             yield fence, block, before
             fence, block, before = '', [], ''
-        elif line.startswith('    ') and not paragraph:
+        elif (line.startswith('    ') and not paragraph) or (block and not line):
             block.append(line[4:])
         else:
             if block:
