@@ -15,8 +15,9 @@ import tempfile
 
 TOP = pathlib.Path(__file__).resolve().parent.parent
 CODES = {
-    "control-character", "missing-variable", "placeable-in-literal", "replacement-character", "unbalanced-direction",
-    "unknown-category", "unknown-term-argument", "unknown-term-variant", "unused-category", "zero-width",
+    "control-character", "missing-variable", "placeable-in-literal", "plural-dropped", "replacement-character",
+    "term-as-text", "unbalanced-direction", "unknown-category", "unknown-term-argument", "unknown-term-variant",
+    "unused-category", "variant-lacks-variable", "zero-width",
 }
 
 

@@ -52,6 +52,7 @@ sources() {
     count_with python3 tools/plurals/compare.py
     count_with python3 tools/numbers/compare.py
     count_with python3 tools/dates/compare.py
+    count_with python3 tools/explanations.py --check
     count_with python3 bench/plot.py --check
     count layout
 }

@@ -7,7 +7,9 @@ use Rattle.fluent_grammar.specs.Words.{Text}
 use Rattle.fluent_grammar.specs.Tree as t
 use Rattle.fluent_meaning.specs.Ids.{Ids, find}
 use Rattle.lint_findings.specs.Comparison.{Difference, missing_message, obsolete_message, missing_value, obsolete_value, missing_attribute, obsolete_attribute, unknown_variable, missing_variable, unused_variable, untranslated, as_message, differences, variables_of}
-use Rattle.lint_findings.specs.ComparisonFindings.{difference_finding, message_findings, missing_findings}
+use Rattle.fluent_plurals.specs.declared.plurals.LanguagePlurals.{LanguagePlurals}
+use Rattle.lint_findings.specs.ComparisonFindings.{difference_finding, difference_findings, loss_finding, loss_findings, message_findings, missing_findings}
+use Rattle.lint_findings.specs.Losses.{Loss, dropped_plural, lacking_variant, losses, written_term}
 use Rattle.lint_findings.specs.DuplicateIds.{Declaration, duplicate_findings, duplicate_remark, first_declaration, id_of, label_of}
 use Rattle.lint_findings.specs.EntryFindings.{entry_findings}
 use Rattle.lint_findings.specs.Files.{File}
@@ -77,13 +79,26 @@ differences_clean source id s known [] = All-nil HasHarmlessCode
 differences_clean source id s known (d ∷ ds) =
     All-cons HasHarmlessCode (difference_finding source id s known d) (map (difference_finding source id s known) ds) (difference_clean source id s known d) (differences_clean source id s known ds)
 
-pub compared_clean : (ids reference : Ids (Unit {0})) (source : Text) (e : t.Entry) (s : Text) → Clean (message_findings ids reference source e s)
-compared_clean ids reference source (t.message m) s = differences_clean source m.id s (variables_of reference m.id) (differences ids reference m.id)
-compared_clean ids reference source (t.term m) s = All-nil HasHarmlessCode
-compared_clean ids reference source (t.comment c) s = All-nil HasHarmlessCode
-compared_clean ids reference source (t.group_comment c) s = All-nil HasHarmlessCode
-compared_clean ids reference source (t.resource_comment c) s = All-nil HasHarmlessCode
-compared_clean ids reference source (t.junk x) s = All-nil HasHarmlessCode
+loss_clean : (source id s : Text) (loss : Loss) → HasHarmlessCode (loss_finding source id s loss)
+loss_clean source id s (lacking_variant k x) = refl
+loss_clean source id s (dropped_plural v) = refl
+loss_clean source id s (written_term term text) = refl
+
+losses_clean : (source id s : Text) (ls : List Loss) → Clean (map (loss_finding source id s) ls)
+losses_clean source id s [] = All-nil HasHarmlessCode
+losses_clean source id s (l ∷ ls) =
+    All-cons HasHarmlessCode (loss_finding source id s l) (map (loss_finding source id s) ls) (loss_clean source id s l) (losses_clean source id s ls)
+
+pub compared_clean : (ids reference : Ids (Unit {0})) (plurals : Option LanguagePlurals) (source : Text) (e : t.Entry) (s : Text) → Clean (message_findings ids reference plurals source e s)
+compared_clean ids reference plurals source (t.message m) s =
+    All-append HasHarmlessCode (difference_findings ids reference source m s) _
+    (differences_clean source m.id s (variables_of reference m.id) (differences ids reference m.id))
+    (losses_clean source m.id s (losses reference plurals m))
+compared_clean ids reference plurals source (t.term m) s = All-nil HasHarmlessCode
+compared_clean ids reference plurals source (t.comment c) s = All-nil HasHarmlessCode
+compared_clean ids reference plurals source (t.group_comment c) s = All-nil HasHarmlessCode
+compared_clean ids reference plurals source (t.resource_comment c) s = All-nil HasHarmlessCode
+compared_clean ids reference plurals source (t.junk x) s = All-nil HasHarmlessCode
 
 missing_clean : (ids : Ids (Unit {0})) (source : Text) (tile : Tile) → Clean (missing_findings ids source tile)
 missing_clean ids source (entry_tile at s (t.message m)) =
@@ -169,7 +184,7 @@ pub translation_clean : (options : Options) (references files : List File) →
     All (OwnClean (translation_rules options references files)) (flat_map tiles_in files) → IsClean (findings_with_reference options references files)
 translation_clean options references files h =
     let rules = translation_rules options references files in
-    let compare = message_findings (known_ids options references files) (known_ids options references references) in
+    let compare = message_findings (known_ids options references files) (known_ids options references references) options.plurals in
     All-append OfFile (findings_of_tiles rules [] (flat_map tiles_in files)) (missing_messages options references files)
-    (tiles_clean rules compare (compared_clean (known_ids options references files) (known_ids options references references)) [] (flat_map tiles_in files) h)
+    (tiles_clean rules compare (compared_clean (known_ids options references files) (known_ids options references references) options.plurals) [] (flat_map tiles_in files) h)
     (all_missing_clean (known_ids options references files) (flat_map tiles_in references))

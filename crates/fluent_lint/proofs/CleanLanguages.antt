@@ -112,7 +112,7 @@ module _ (options : Options) (references all : List File) where
           let r_clean : Clean r.findings =
           subst (λ (x : FileFound). Clean x.findings) (get_or_from_slice_get reference i r r is) (known i r (slice_get_within reference i r is)) in
           let found = found_after alone catalogs before file (Some (own_ids r.file.source)) in
-          let later = differences catalogs.mine catalogs.theirs file r.file ++ gaps file r.file in
+          let later = differences rules.plurals catalogs.mine catalogs.theirs file r.file ++ gaps file r.file in
           let placed = in_order_has HasHarmlessCode (λ (f : Finding). f.offset) (new_among r.findings found ++ later) h in
           after_own before file (Some (own_ids r.file.source)) (new_clean r.findings found r_clean (all_left HasHarmlessCode (new_among r.findings found) later placed))
 

@@ -1,19 +1,16 @@
 -- How messages differ, by the ids in the code.
-use Rattle.std.proofs.Common.{◌≡◌, ◌∙◌, List, [], ap, refl}
-use Rattle.std.specs.Prelude.{unwrap_or}
-use Rattle.fluent_grammar.specs.Tree as t
-use Rattle.fluent_grammar.specs.Words.{Text}
+use Rattle.std.proofs.Common.{◌≡◌, ◌∙◌, List, [], ap}
+use Rattle.std.specs.Prelude.{Option, unwrap_or}
 use Rattle.fluent_ids.specs.IdsView.{ids_view}
 use Rattle.fluent_meaning.specs.Ids.{Ids}
-use Rattle.lint_entries.specs.AttributePlaces.{uncommented}
+use Rattle.fluent_plurals.specs.declared.plurals.LanguagePlurals.{LanguagePlurals}
 use Rattle.lint_entries.specs.Kept.{Part}
 use Rattle.lint_finding.specs.View.{file_view}
-use Rattle.lint_findings.specs.ComparisonFindings.{message_findings}
 use Rattle.lint_findings.specs.Finding.{Finding}
 use Rattle.lint_findings.specs.Files.{File}
 use Rattle.fluent_lint.specs.Own.{AreShown, IsOwn, compared_in, shown_view, wide_in}
 use Rattle.fluent_lint.specs.Pairs.{own_ids}
-use Rattle.fluent_lint.specs.Shown.{Catalogs, compared, compared_by, either_ids, has_both, of_firsts, shown_ids, wide_ids}
+use Rattle.fluent_lint.specs.Shown.{Catalogs, compared, of_firsts, shown_ids, wide_ids}
 use Rattle.fluent_lint.specs.declared.pairs.OwnFile.{OwnFile}
 
 -- what a file is shown with is that of its catalog
@@ -23,7 +20,7 @@ shown_is files own is wide =
     ap (λ w. unwrap_or w (ids_view (Unit {0}) own.ids.now)) wide
     ∙ ap (unwrap_or (wide_ids files (file_view own.tiles.now.file))) is.ids
 
-module _ (catalogs : Catalogs) (own original : OwnFile) (is : IsOwn own) (is' : IsOwn original) (shown : AreShown catalogs own original) where
+module _ (plurals : Option LanguagePlurals) (catalogs : Catalogs) (own original : OwnFile) (is : IsOwn own) (is' : IsOwn original) (shown : AreShown catalogs own original) where
   abbrev file : File
   file = file_view own.tiles.now.file
 
@@ -31,23 +28,12 @@ module _ (catalogs : Catalogs) (own original : OwnFile) (is : IsOwn own) (is' : 
   other = file_view original.tiles.now.file
 
   -- the messages are compared by the ids of the catalogs
-  pub compared_is : (ps : List Part) → of_firsts (compared_in own original) [] ps
-      ≡ of_firsts (compared (shown_ids catalogs.mine file) (shown_ids catalogs.theirs other) (own_ids file.source) (own_ids other.source) file.source) [] ps
+  pub compared_is : (ps : List Part) → of_firsts (compared_in plurals own original) [] ps
+      ≡ of_firsts (compared plurals (shown_ids catalogs.mine file) (shown_ids catalogs.theirs other) (own_ids file.source) (own_ids other.source) file.source) [] ps
   compared_is ps =
       let by : Ids (Unit {0}) → Ids (Unit {0}) → Ids (Unit {0}) → Ids (Unit {0}) → List Finding =
-      λ mine theirs one another. of_firsts (compared mine theirs one another file.source) [] ps in
+      λ mine theirs one another. of_firsts (compared plurals mine theirs one another file.source) [] ps in
       ap (λ ids. by ids (shown_view original) (ids_view (Unit {0}) own.ids.now) (ids_view (Unit {0}) original.ids.now)) (shown_is catalogs.mine own is shown.mine)
       ∙ ap (λ ids. by (shown_ids catalogs.mine file) ids (ids_view (Unit {0}) own.ids.now) (ids_view (Unit {0}) original.ids.now)) (shown_is catalogs.theirs original is' shown.theirs)
       ∙ ap (λ ids. by (shown_ids catalogs.mine file) (shown_ids catalogs.theirs other) ids (ids_view (Unit {0}) original.ids.now)) is.ids
       ∙ ap (by (shown_ids catalogs.mine file) (shown_ids catalogs.theirs other) (own_ids file.source)) is'.ids
-
--- comments make no difference
-pub same_compared : (shown theirs own original : Ids (Unit {0})) (source s : Text) (e : t.Entry)
-    → message_findings (either_ids (has_both original e) shown own) (either_ids (has_both original e) theirs original) source (uncommented e) s
-    ≡ compared_by shown theirs own original source s (uncommented e)
-same_compared shown theirs own original source s (t.message m) = refl
-same_compared shown theirs own original source s (t.term m) = refl
-same_compared shown theirs own original source s (t.comment c) = refl
-same_compared shown theirs own original source s (t.group_comment c) = refl
-same_compared shown theirs own original source s (t.resource_comment c) = refl
-same_compared shown theirs own original source s (t.junk x) = refl

@@ -8,11 +8,11 @@ use Rattle.lint_findings.specs.DuplicateIds.{Declaration}
 use Rattle.lint_findings.specs.Finding.{Finding}
 use Rattle.lint_findings.specs.Findings.{Rules}
 use Rattle.fluent_lint.specs.FileTiles.{files_of, files_view}
-use Rattle.fluent_lint.specs.Languages.{first_original, found_from}
+use Rattle.fluent_lint.specs.Languages.{first_original, told_for, told_from}
 use Rattle.fluent_lint.specs.ReferenceView.{file_found, files_found}
 use Rattle.fluent_lint.specs.Shown.{Catalogs}
 use Rattle.fluent_lint.specs.Taken.{declared_with}
-use Rattle.fluent_lint.specs.Translated.{FileFound, LanguageFile, found_for, original_ids}
+use Rattle.fluent_lint.specs.Translated.{FileFound, LanguageFile, original_ids}
 use Rattle.fluent_lint.specs.declared.original.Original.{Original}
 use Rattle.fluent_lint.specs.declared.original.Original.TheVariants as of
 use Rattle.fluent_lint.specs.declared.tiles.FileTiles.{FileTiles}
@@ -38,24 +38,24 @@ one_dropped os i = rw add-one (dropped os i)
 module _ {Y : Type 0} (rules : Rules) (catalogs : Catalogs) (reference : List FileFound) (os : List Original) (of_file : LanguageFile → Y) where
   -- what is left from an index on, after these declarations
   abbrev pub left : List Declaration → ℕ → List FileTiles → List Y
-  left before i tiled = map of_file (found_from rules catalogs reference before (drop i os) (files_view (files_of (drop i tiled))))
+  left before i tiled = map of_file (told_from rules catalogs reference before (drop i os) (files_view (files_of (drop i tiled))))
 
   -- one more file
   pub one_each : (before : List Declaration) (tiled : List FileTiles) (i : ℕ) (item : FileTiles) (old new : List Y) (o : Original) {all : List Y} →
       i < length tiled → item ≡ get_or tiled i item → o ≡ unwrap_or (slice_get os i) of.Unasked →
-      new ≡ old ++ of_file (found_for rules catalogs before (file_view item.file) reference o) ∷ [] →
+      new ≡ old ++ of_file (told_for rules catalogs reference before (file_view item.file) o) ∷ [] →
       old ++ left before i tiled ≡ all → new ++ left (declared_with (original_ids reference o) (file_view item.file) before) (i + 1) tiled ≡ all
   one_each before tiled i item old new o inside is from pushed so_far =
       let file = file_view item.file in
       let after : Original → List Declaration = λ r. declared_with (original_ids reference r) file before in
       let later = left (after o) (i + 1) tiled in
       let files = files_view (files_of (drop (i + 1) tiled)) in
-      let here : left before i tiled ≡ of_file (found_for rules catalogs before file reference o) ∷ later =
-      ap (λ fs. map of_file (found_from rules catalogs reference before (drop i os) fs)) (next_file tiled i item inside is)
-      ∙ ap (λ r. of_file (found_for rules catalogs before file reference r) ∷ map of_file (found_from rules catalogs reference (after r) (drop 1 (drop i os)) files)) (original_at os i ∙ sym from)
-      ∙ ap (λ rs. of_file (found_for rules catalogs before file reference o) ∷ map of_file (found_from rules catalogs reference (after o) rs files)) (one_dropped os i) in
+      let here : left before i tiled ≡ of_file (told_for rules catalogs reference before file o) ∷ later =
+      ap (λ fs. map of_file (told_from rules catalogs reference before (drop i os) fs)) (next_file tiled i item inside is)
+      ∙ ap (λ r. of_file (told_for rules catalogs reference before file r) ∷ map of_file (told_from rules catalogs reference (after r) (drop 1 (drop i os)) files)) (original_at os i ∙ sym from)
+      ∙ ap (λ rs. of_file (told_for rules catalogs reference before file o) ∷ map of_file (told_from rules catalogs reference (after o) rs files)) (one_dropped os i) in
       ap (λ l. l ++ later) pushed
-      ∙ append_assoc old (of_file (found_for rules catalogs before file reference o) ∷ []) later
+      ∙ append_assoc old (of_file (told_for rules catalogs reference before file o) ∷ []) later
       ∙ ap (λ l. old ++ l) (sym here)
       ∙ so_far
 
@@ -63,7 +63,7 @@ module _ {Y : Type 0} (rules : Rules) (catalogs : Catalogs) (reference : List Fi
   pub none_left : (before : List Declaration) (tiled : List FileTiles) (i : ℕ) (now : List Y) {all : List Y} → length tiled ≤ i → now ++ left before i tiled ≡ all → now ≡ all
   none_left before tiled i now over so_far =
       sym (append-nil now)
-      ∙ ap (λ l. now ++ map of_file (found_from rules catalogs reference before (drop i os) (files_view (files_of l)))) (sym (drop_all i tiled over))
+      ∙ ap (λ l. now ++ map of_file (told_from rules catalogs reference before (drop i os) (files_view (files_of l)))) (sym (drop_all i tiled over))
       ∙ so_far
 
 -- the findings of one more file

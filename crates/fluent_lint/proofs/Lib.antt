@@ -1,5 +1,6 @@
 pub mod InOrder
 pub mod Kept
+pub mod Silencing
 pub mod Lists
 pub mod Severities
 pub mod Trees
@@ -21,6 +22,7 @@ pub mod Parallel
 pub mod ReferenceFiles
 pub mod TakenSteps
 pub mod Wide
+pub mod Uncommented
 pub mod Compared
 pub mod ForOriginal
 pub mod FirstParts

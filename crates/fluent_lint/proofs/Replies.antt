@@ -97,15 +97,15 @@ own_ids F options [] files alone own = catalogs_override_nothing options files [
 own_ids F options (file ∷ references) files alone own = translations_override_nothing options (file ∷ references) files [] (no_functions F options (file ∷ references) alone) own
 
 pub clean_reports_reply_well : {S F : Type 0} → CleanReportsReplyWell S F
-clean_reports_reply_well {S} {F} options ignored references files alone shown clean =
-    replies_well false files (flawless F options references files alone (none_found options ignored references files harmful_codes shown clean))
+clean_reports_reply_well {S} {F} options ignored references files unsilenced alone shown clean =
+    replies_well false files (flawless F options references files alone (none_found options ignored references files unsilenced harmful_codes shown clean))
 
 pub own_ids_reply_well : {S F : Type 0} → OwnIdsReplyWell S F
-own_ids_reply_well {S} {F} options ignored references files alone shown clean own =
+own_ids_reply_well {S} {F} options ignored references files unsilenced alone shown clean own =
     let of_id = All-head (λ name. is_among name ignored ≡ false) (codes "duplicate-id") harmful_codes shown in
     let of_others = All-tail (λ name. is_among name ignored ≡ false) (codes "duplicate-id") harmful_codes shown in
-    let clean_there = none_found options ignored references files harmful_codes of_others clean in
-    let own_there = one_found options ignored references files (codes "duplicate-id") of_id own in
+    let clean_there = none_found options ignored references files unsilenced harmful_codes of_others clean in
+    let own_there = one_found options ignored references files unsilenced (codes "duplicate-id") of_id own in
     replies_well true files (subst IsFlawless (sym (own_ids F options references files alone own_there)) (flawless F options references files alone clean_there))
 
 -- from no source there is no reply
@@ -125,13 +125,13 @@ module _ {S F : Type 0} (env : Environment S F) (r : Request (Value S)) where
       false≢true (sym (mapped_some _ (asked env r ids) ∙ ap is_some none) ∙ h)
 
 pub translations_reply : {S F : Type 0} → TranslationsReply S F
-translations_reply {S} {F} options ignored [] files alone shown complete env r h = absurd (no_reply env r h)
-translations_reply {S} {F} options ignored (file ∷ more) files alone shown complete env r h =
+translations_reply {S} {F} options ignored [] files unsilenced alone shown complete env r h = absurd (no_reply env r h)
+translations_reply {S} {F} options ignored (file ∷ more) files unsilenced alone shown complete env r h =
     let references = file ∷ more in
     let reference = ids_of {F = F} false (sources references) in
     let ids = ids_of {F = F} false (sources files) in
     let own = found_some (asked env r reference) (sym (mapped_some _ (asked env r reference)) ∙ h) in
     let target : HasTarget reference r.id r.attribute = (own.0, asked_is_target r.id r.attribute (find reference r.id) own.0 own.1) in
-    let lacks = none_found options ignored references files missing_codes shown complete in
+    let lacks = none_found options ignored references files unsilenced missing_codes shown complete in
     let found = translations_answer_all options references files [] (no_functions F options references alone) lacks r.id r.attribute target in
     mapped_some _ (asked env r ids) ∙ target_is_asked r.id r.attribute (find ids r.id) found.0 found.1

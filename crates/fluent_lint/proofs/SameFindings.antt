@@ -13,7 +13,9 @@ use Rattle.lint_findings.specs.Files.{File}
 use Rattle.lint_findings.specs.Findings.{Options, FileFinding, FileTile, Rules, catalog_rules, declarations_of_tile, findings_in, findings_of_tile, findings_of_tiles, missing_messages, tiles_in, translation_rules}
 use Rattle.fluent_lint.specs.InOrder.{in_order, put}
 use Rattle.fluent_lint.specs.LintReport.{all_findings}
-use Rattle.fluent_lint.specs.Reported.{declarations_in, found, found_in_files, ordered, reported}
+use Rattle.fluent_lint.specs.Found.{AreUnsilenced, reported}
+use Rattle.fluent_lint.specs.Reported.{declarations_in, found, found_in_files, kept_of, ordered}
+use Rattle.fluent_lint.proofs.Kept.{told_is_found}
 use Rattle.fluent_lint.specs.RunLaws.{NoneIsIgnored, ReportsAreFindings}
 
 -- ---- counts of lists
@@ -139,8 +141,9 @@ found_counted options (r ∷ rs) files test =
     ∙ sym (counted_both test all missing)
 
 pub reports_are_findings : ReportsAreFindings
-reports_are_findings options ignored references files test =
+reports_are_findings options ignored references files test none =
     let both : FileFinding → Bool = λ f. keeps ignored f && test f in
+    ap (λ fs. count_by test (kept_of ignored fs)) (told_is_found options references files none) ∙
     counted_kept test (keeps ignored) (found options references files)
     ∙ found_counted options references files both
     ∙ sym (counted_kept test (keeps ignored) (all_findings options references files))
@@ -162,7 +165,7 @@ not_kept : (b : Bool) → not b ≡ false → b ≡ true
 not_kept true h = refl
 not_kept false h = absurd (false≢true (sym h))
 
-module _ (options : Options) (ignored : List Text) (references files : List File) where
+module _ (options : Options) (ignored : List Text) (references files : List File) (unsilenced : AreUnsilenced files) where
   -- If no finding with such a code is reported, and none is ignored, none is found.
   pub none_found : (names : List Text) → NoneIsIgnored names ignored →
       All (λ (f : FileFinding). is_among f.finding.code names ≡ false) (reported options ignored references files) →
@@ -171,7 +174,7 @@ module _ (options : Options) (ignored : List Text) (references files : List File
       let test : FileFinding → Bool = λ f. is_among f.finding.code names in
       none_of_all test (keeps ignored) (λ f dropped. other_code f.finding.code ignored names shown (not_kept (is_among f.finding.code ignored) dropped))
       (all_findings options references files)
-      (sym (reports_are_findings options ignored references files test) ∙ none_counted test (reported options ignored references files) none)
+      (sym (reports_are_findings options ignored references files test unsilenced) ∙ none_counted test (reported options ignored references files) none)
 
   -- the same of one code
   pub one_found : (name : Text) → is_among name ignored ≡ false →
@@ -181,7 +184,7 @@ module _ (options : Options) (ignored : List Text) (references files : List File
       let test : FileFinding → Bool = λ f. bytes_eq f.finding.code name in
       none_of_all test (keeps ignored) (λ f dropped. differs f.finding.code (not_kept (is_among f.finding.code ignored) dropped))
       (all_findings options references files)
-      (sym (reports_are_findings options ignored references files test) ∙ none_counted test (reported options ignored references files) none)
+      (sym (reports_are_findings options ignored references files test unsilenced) ∙ none_counted test (reported options ignored references files) none)
     where
       differs : (code : Text) → is_among code ignored ≡ true → bytes_eq code name ≡ false
       differs code is =

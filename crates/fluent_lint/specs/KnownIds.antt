@@ -1,5 +1,5 @@
 -- What is known of a catalog and its reference.
-use Rattle.std.specs.Prelude.{◌≡◌, List, [], ◌∷◌}
+use Rattle.std.specs.Prelude.{◌≡◌, List, [], ◌∷◌, Option}
 use denote.Ref.{Bor}
 use Rattle.fluent_grammar.specs.Tree as t
 use Rattle.fluent_grammar.specs.Words.{Text}
@@ -10,6 +10,7 @@ use Rattle.fluent_lint.specs.FileTiles.{files_view}
 use Rattle.fluent_lint.specs.Reports.{options_view}
 use Rattle.fluent_lint.specs.declared.known.Known.{Known}
 use Rattle.fluent_lint.specs.declared.reports.Options.{Options}
+use Rattle.fluent_plurals.specs.declared.plurals.LanguagePlurals.{LanguagePlurals}
 use Rattle.fluent_resource.specs.Sources.{texts}
 use Rattle.lint_entries.specs.Terms.{is_referred}
 use Rattle.lint_entries.specs.declared.terms.ReferredTerms.{ReferredTerms}
@@ -38,9 +39,9 @@ pub record IsKnownOf (o : Options) (references files : List File) (known : Known
   pub reference : AreKnownIds o references references known.reference
 
 -- what is found of entries by ids of a catalog and of its reference, if that has files
-abbrev pub compare_by : Ids (Unit {0}) → Ids (Unit {0}) → List File → Text → t.Entry → Text → List Finding
-compare_by ids reference [] = λ source e s. []
-compare_by ids reference (file ∷ files) = message_findings ids reference
+abbrev pub compare_by : Ids (Unit {0}) → Ids (Unit {0}) → Option LanguagePlurals → List File → Text → t.Entry → Text → List Finding
+compare_by ids reference plurals [] = λ source e s. []
+compare_by ids reference plurals (file ∷ files) = message_findings ids reference plurals
 
-abbrev pub compared : Known → List File → Text → t.Entry → Text → List Finding
-compared known references = compare_by (ids_view (Unit {0}) known.ids) (ids_view (Unit {0}) known.reference) references
+abbrev pub compared : Known → Option LanguagePlurals → List File → Text → t.Entry → Text → List Finding
+compared known plurals references = compare_by (ids_view (Unit {0}) known.ids) (ids_view (Unit {0}) known.reference) plurals references

@@ -8,6 +8,9 @@ use Rattle.lint_findings.specs.Findings.{Options, Rules, translation_rules}
 use Rattle.fluent_lint.specs.FileTiles.{files_of, files_view}
 use Rattle.fluent_lint.specs.ReferenceView.{files_found, named_by}
 use Rattle.fluent_lint.specs.Reports.{options_view}
+use Rattle.fluent_lint.specs.Silence.{heard, looked_in}
+use Rattle.fluent_lint.specs.declared.looked.Looked.{Looked}
+use Rattle.fluent_grammar.specs.Words.{Text}
 use Rattle.lint_findings.specs.DuplicateIds.{Declaration}
 use Rattle.fluent_lint.specs.Taken.{declared_with}
 use Rattle.fluent_lint.specs.Shown.{Catalogs}
@@ -43,6 +46,24 @@ module _ (rules : Rules) (catalogs : Catalogs) (reference : List FileFound) wher
   abbrev pub found_each : List Original → List File → List LanguageFile
   found_each os files = found_from [] os files
 
+-- What is told of a file: what is found, without what its comments leave out.
+abbrev pub told_of : Looked → Text → LanguageFile → LanguageFile
+told_of looked source l = record { findings = heard looked source l.findings; messages = l.messages }
+
+module _ (rules : Rules) (catalogs : Catalogs) (reference : List FileFound) where
+  abbrev pub told_for : List Declaration → File → Original → LanguageFile
+  told_for before file o = told_of (looked_in rules.plurals o) file.source (found_for rules catalogs before file reference o)
+
+  -- the same of each file
+  abbrev pub told_from : List Declaration → List Original → List File → List LanguageFile
+  told_from before os [] = []
+  told_from before os (file ∷ files) =
+      told_for before file (first_original os)
+      ∷ told_from (declared_with (original_ids reference (first_original os)) file before) (drop 1 os) files
+
+  abbrev pub told_each : List Original → List File → List LanguageFile
+  told_each os files = told_from [] os files
+
 -- ---- in the code
 
 -- the findings of files, of each its own
@@ -52,8 +73,8 @@ findings_by_file found = map (λ (f : FileFound). f.findings) (files_found found
 -- these are they, of these files
 pub record AreFoundEach (rules : Rules) (catalogs : Catalogs) (reference : List FileFound) (originals : List Original) (files : List code.File) (found : LanguageFindings) : Type 0 where
   pub named : named_by found.files.items ≡ files
-  pub findings : findings_by_file found ≡ map (λ (l : LanguageFile). l.findings) (found_each rules catalogs reference originals (files_view files))
-  pub messages : found.messages.items ≡ map (λ (l : LanguageFile). l.messages) (found_each rules catalogs reference originals (files_view files))
+  pub findings : findings_by_file found ≡ map (λ (l : LanguageFile). l.findings) (told_each rules catalogs reference originals (files_view files))
+  pub messages : found.messages.items ≡ map (λ (l : LanguageFile). l.messages) (told_each rules catalogs reference originals (files_view files))
 
 -- the files of a language, and those of a reference
 abbrev pub catalogs_with : ReferenceCatalog → List File → Catalogs

@@ -17,6 +17,8 @@ pub mod Pairs
 pub mod Gaps
 pub mod MessagePlaces
 pub mod Lone
+pub mod Silence
+pub mod SilenceView
 pub mod Own
 pub mod Taken
 pub mod TakenView

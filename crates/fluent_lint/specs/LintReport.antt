@@ -10,7 +10,8 @@ use Rattle.lint_findings.specs.Summary.{Summary, entry_count, summaries}
 use Rattle.fluent_lint.specs.Lacking.{is_lacking}
 use Rattle.fluent_lint.specs.Totals.{taken_line, totals_line}
 use Rattle.lint_report.specs.View.{shown_width}
-use Rattle.fluent_lint.specs.Reported.{found, kept_of, reported}
+use Rattle.fluent_lint.specs.Found.{reported, told}
+use Rattle.fluent_lint.specs.Reported.{kept_of}
 
 -- What is found, before anything is left out. A catalog without a reference is looked at by itself,
 abbrev pub all_findings : Options → List File → List File → List FileFinding
@@ -57,11 +58,11 @@ pub record LintReport : Type 0 where
   pub text : Text
   pub has_failed : Bool
 
--- The report on files, with those of the reference before them. The counts are of all that is found, whether it is
--- shown or not. In all else, findings that are ignored are as if they weren't found.
+-- The report on files, with those of the reference before them. What comments leave out is as if it weren't found. The counts are of
+-- all else, whether it is shown or not; apart from them, findings that are ignored are as if they weren't found either.
 abbrev pub lint_report : Options → Output → List File → List File → LintReport
 lint_report options o references files =
-    let counts = shown_counts o.format o.counts (all_summaries references files (found options references files)) in
+    let counts = shown_counts o.format o.counts (all_summaries references files (told options references files)) in
     let shown = reported options o.ignored references files in
     record {
       text = out.output o.format shown_width (report.shown o.notes shown) counts

@@ -4,11 +4,11 @@ use Rattle.std.specs.Global.{Global}
 use denote.Ref.{Bor}
 use Rattle.fluent_ast.specs.Borrowed.{entries_of}
 use Rattle.fluent_ast.specs.declared.Resource.{Resource}
-use Rattle.fluent_grammar.specs.Tree as t
 use Rattle.fluent_grammar.specs.Words.{Text}
 use Rattle.fluent_ids.specs.IdsView.{ids_view}
 use Rattle.fluent_ids.specs.declared.ids.FluentIds.{FluentIds}
 use Rattle.fluent_meaning.specs.Ids.{Ids, entries_by_id, with_ids}
+use Rattle.fluent_plurals.specs.declared.plurals.LanguagePlurals.{LanguagePlurals}
 use Rattle.lint_endless.specs.HasNames.{HasNames}
 use Rattle.lint_endless.specs.declared.names.Names.{Names}
 use Rattle.lint_entries.specs.Kept.{Part}
@@ -22,7 +22,7 @@ use Rattle.lint_findings.specs.Finding as finding
 use Rattle.fluent_lint.specs.FileTiles.{AreTilesOf, files_of, files_view}
 use Rattle.fluent_lint.specs.Known.{trees_by_id}
 use Rattle.fluent_lint.specs.Pairs.{own_ids}
-use Rattle.fluent_lint.specs.Shown.{Catalogs, any_refers_out, compared, differences, either_ids, has_both, ids_with, if_first, is_first, wide_ids}
+use Rattle.fluent_lint.specs.Shown.{Catalogs, any_refers_out, compared, differences, ids_with, if_first, is_first, wide_ids}
 use Rattle.fluent_lint.specs.declared.own.OwnFiles.{OwnFiles}
 use Rattle.fluent_lint.specs.declared.pairs.OwnFile.{OwnFile}
 use Rattle.fluent_lint.specs.declared.tiles.FileTiles.{FileTiles}
@@ -89,18 +89,14 @@ pub record AreShown (catalogs : Catalogs) (own original : OwnFile) : Type 0 wher
 
 -- ---- how messages differ
 
-abbrev pub compared_in : OwnFile → OwnFile → Part → List finding.Finding
-compared_in own original =
-    compared (shown_view own) (shown_view original) (ids_view (Unit {0}) own.ids.now) (ids_view (Unit {0}) original.ids.now) own.tiles.now.file.source.now
-
--- the ids that a message of both files, or any other, is compared by: those of a file, or of what it is shown with
-abbrev pub ids_for : OwnFile → OwnFile → t.Entry → Ids (Unit {0})
-ids_for own original e = either_ids (has_both (ids_view (Unit {0}) original.ids.now) e) (shown_view own) (ids_view (Unit {0}) own.ids.now)
+abbrev pub compared_in : Option LanguagePlurals → OwnFile → OwnFile → Part → List finding.Finding
+compared_in plurals own original =
+    compared plurals (shown_view own) (shown_view original) (ids_view (Unit {0}) own.ids.now) (ids_view (Unit {0}) original.ids.now) own.tiles.now.file.source.now
 
 -- how a tile differs is added, if it is the first of its id: the ids before it are known
-abbrev pub AddsIfFirst : OwnFile → OwnFile → Tile → Names → Vec Finding Global → Vec Finding Global → Type 0
-AddsIfFirst own original tile known old new =
-    (ids : List Text) → HasNames known ids → Adds old new (if_first (compared_in own original) ids (tile_view tile))
+abbrev pub AddsIfFirst : Option LanguagePlurals → OwnFile → OwnFile → Tile → Names → Vec Finding Global → Vec Finding Global → Type 0
+AddsIfFirst plurals own original tile known old new =
+    (ids : List Text) → HasNames known ids → Adds old new (if_first (compared_in plurals own original) ids (tile_view tile))
 
 -- whether it is, and the ids after it
 abbrev pub IsFirstTile : Tile → Names → Bool → Type 0
@@ -110,6 +106,6 @@ abbrev pub GetsTile : Names → Tile → Names → Type 0
 GetsTile old tile new = (ids : List Text) → HasNames old ids → HasNames new (ids_with ids (tile_view tile))
 
 -- how the messages of a file differ from those that they are translated from is added
-abbrev pub AddsDifferences : OwnFile → OwnFile → Vec Finding Global → Vec Finding Global → Type 0
-AddsDifferences own original old new = (catalogs : Catalogs) → AreShown catalogs own original
-    → Adds old new (differences catalogs.mine catalogs.theirs (file_view own.tiles.now.file) (file_view original.tiles.now.file))
+abbrev pub AddsDifferences : Option LanguagePlurals → OwnFile → OwnFile → Vec Finding Global → Vec Finding Global → Type 0
+AddsDifferences plurals own original old new = (catalogs : Catalogs) → AreShown catalogs own original
+    → Adds old new (differences plurals catalogs.mine catalogs.theirs (file_view own.tiles.now.file) (file_view original.tiles.now.file))

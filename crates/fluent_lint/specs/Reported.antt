@@ -36,7 +36,3 @@ kept finding ignored xs = filter (λ x. not (is_among (finding x).code ignored))
 -- the same of findings with their file
 abbrev pub kept_of : List Text → List FileFinding → List FileFinding
 kept_of ignored fs = kept (λ (f : FileFinding). f.finding) ignored fs
-
--- what is reported, with these codes ignored
-abbrev pub reported : Options → List Text → List File → List File → List FileFinding
-reported options ignored references files = kept_of ignored (found options references files)

@@ -1,10 +1,12 @@
 -- Reports of files.
-use Rattle.std.specs.Prelude.{◌≡◌, ℕ, List, ◌++◌, Vec, length, map, string_bytes}
+use Rattle.std.specs.Prelude.{◌≡◌, ℕ, List, ◌++◌, Some, Vec, length, map, string_bytes}
 use Rattle.std.specs.Global.{Global}
 use Rattle.fluent_lint.specs.FileTiles.{files_of, files_view}
-use Rattle.fluent_lint.specs.Found.{found_by}
+use Rattle.fluent_lint.specs.Found.{found_by, told}
 use Rattle.fluent_lint.specs.LintReport.{all_summaries, shown_counts, totals}
-use Rattle.fluent_lint.specs.Reported.{found, kept_of}
+use Rattle.fluent_lint.specs.Reported.{kept_of}
+use Rattle.fluent_lint.specs.declared.looked.Looked.{Looked}
+use Rattle.fluent_lint.specs.declared.read.ReadFiles.{ReadFiles}
 use Rattle.fluent_lint.specs.declared.reports.Options.{Options}
 use Rattle.fluent_lint.specs.declared.reports.Output.{Output}
 use Rattle.fluent_lint.specs.declared.reports.Report.{Report}
@@ -70,11 +72,13 @@ IsReportWith found references files output report =
     (length (files_view files)) (entry_count (files_view files)) output report
 
 -- by these rules
-abbrev pub IsReportBy : Rules → List File → List File → Output → Report → Type 0
-IsReportBy rules references files output report =
-    IsReportWith (found_by rules (files_view references) (files_view files)) references files output report
+abbrev pub IsReportBy : Rules → Looked → ReadFiles → ReadFiles → Output → Report → Type 0
+IsReportBy rules looked references read output report =
+    let original = references.files.now in
+    let files = read.files.now in
+    IsReportWith (found_by rules (Some looked) (files_view original) (files_view files)) original files output report
 
 -- by what is known of the program and of the language
 abbrev pub IsReportOn : Options → Output → List File → List File → Report → Type 0
 IsReportOn o output references files report =
-    IsReportWith (found (options_view o) (files_view references) (files_view files)) references files output report
+    IsReportWith (told (options_view o) (files_view references) (files_view files)) references files output report

@@ -17,14 +17,16 @@ use Rattle.lint_findings.specs.Files.{File}
 use Rattle.lint_findings.specs.Findings.{Options, FileFinding, known_functions, sources}
 use Rattle.lint_findings.specs.ReportLaws.{HasOwnIds, IsClean, IsOfRequest, LacksNothing, harmful_codes, missing_codes}
 use Rattle.fluent_lint.specs.LintReport.{all_findings}
-use Rattle.fluent_lint.specs.Reported.{kept, reported}
+use Rattle.fluent_lint.specs.Found.{AreUnsilenced, reported}
+use Rattle.fluent_lint.specs.Reported.{kept}
 
 -- ---- what is reported
 
--- A report has the findings whose code isn't ignored, and each as often: a test passes as many of the one as of the other.
+-- A report on files without comments that leave findings out has the findings whose code isn't ignored, and each as often: a test
+-- passes as many of the one as of the other.
 abbrev pub ReportsAreFindings : Type 0
 ReportsAreFindings = (options : Options) (ignored : List Text) (references files : List File) (test : FileFinding → Bool) →
-    count_by test (reported options ignored references files)
+    AreUnsilenced files → count_by test (reported options ignored references files)
     ≡ count_by test (kept (λ (f : FileFinding). f.finding) ignored (all_findings options references files))
 
 -- none of these codes is ignored
@@ -52,22 +54,22 @@ abbrev pub RepliesWell : Type 0 → Type 0 → Bool → List File → Type 0
 RepliesWell S F overriding files = (env : Environment S F) (r : Request (Value S)) →
     HasErrorsOfRequest (all_set [] r.arguments) (replied env overriding (sources files) r)
 
--- If a report has no harmful finding, and no code of such findings is ignored, each reply of `ftl run` from its files has
--- only errors that depend on the request.
+-- If a report has no harmful finding, no comment of its files leaves a finding out, and no code of such findings is ignored, each
+-- reply of `ftl run` from its files has only errors that depend on the request.
 abbrev pub CleanReportsReplyWell : Type 0 → Type 0 → Type 0
-CleanReportsReplyWell S F = (options : Options) (ignored : List Text) (references files : List File) → KnowsNumberAlone options references →
+CleanReportsReplyWell S F = (options : Options) (ignored : List Text) (references files : List File) → AreUnsilenced files → KnowsNumberAlone options references →
     NoneIsIgnored harmful_codes ignored → IsClean (reported options ignored references files) → RepliesWell S F false files
 
 -- If it has none of a taken id either, so has each reply with `--overriding`.
 abbrev pub OwnIdsReplyWell : Type 0 → Type 0 → Type 0
-OwnIdsReplyWell S F = (options : Options) (ignored : List Text) (references files : List File) → KnowsNumberAlone options references →
+OwnIdsReplyWell S F = (options : Options) (ignored : List Text) (references files : List File) → AreUnsilenced files → KnowsNumberAlone options references →
     NoneIsIgnored (codes "duplicate-id" ∷ harmful_codes) ignored → IsClean (reported options ignored references files) →
     HasOwnIds (reported options ignored references files) → RepliesWell S F true files
 
 -- If it says of nothing that it is missing, and these codes aren't ignored, `ftl run` has a reply from its files to each
 -- request that it has a reply to from the reference.
 abbrev pub TranslationsReply : Type 0 → Type 0 → Type 0
-TranslationsReply S F = (options : Options) (ignored : List Text) (references files : List File) → KnowsNumberAlone options references →
+TranslationsReply S F = (options : Options) (ignored : List Text) (references files : List File) → AreUnsilenced files → KnowsNumberAlone options references →
     NoneIsIgnored missing_codes ignored → LacksNothing (reported options ignored references files) →
     (env : Environment S F) (r : Request (Value S)) →
     is_some (replied env false (sources references) r) ≡ true → is_some (replied env false (sources files) r) ≡ true

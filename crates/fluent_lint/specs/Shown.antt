@@ -6,6 +6,7 @@ use Rattle.fluent_grammar.specs.Tree as t
 use Rattle.fluent_grammar.specs.Words.{Text, is_among}
 use Rattle.fluent_ids.specs.Found.{message_in}
 use Rattle.fluent_meaning.specs.Ids.{Ids, Meaning, entries_by_id, find, with_ids}
+use Rattle.fluent_plurals.specs.declared.plurals.LanguagePlurals.{LanguagePlurals}
 use Rattle.lint_entries.specs.Kept.{Part, entry_part, junk_part, parts}
 use Rattle.lint_findings.specs.Comparison.{union}
 use Rattle.lint_findings.specs.ComparisonFindings.{message_findings}
@@ -88,11 +89,11 @@ either_ids false shown own = own
 
 -- A message that both files have is shown with the variables of all that it refers to, in any file: by these ids, of both files. Any
 -- other is compared by those of its file alone.
-module _ (shown theirs own original : Ids (Unit {0})) (source : Text) where
+module _ (plurals : Option LanguagePlurals) (shown theirs own original : Ids (Unit {0})) (source : Text) where
   abbrev pub compared_by : Text → t.Entry → List Finding
   compared_by s e =
       let both = has_both original e in
-      message_findings (either_ids both shown own) (either_ids both theirs original) source e s
+      message_findings (either_ids both shown own) (either_ids both theirs original) plurals source e s
 
   abbrev pub compared : Part → List Finding
   compared (entry_part s e) = compared_by s e
@@ -120,7 +121,7 @@ module _ (of_part : Part → List Finding) where
   of_firsts ids (p ∷ ps) = if_first ids p ++ of_firsts (ids_with ids p) ps
 
 -- How the messages of a file differ from those of another. One whose id is taken in the file doesn't count.
-abbrev pub differences : List File → List File → File → File → List Finding
-differences mine theirs file original =
-    of_firsts (compared (shown_ids mine file) (shown_ids theirs original) (own_ids file.source) (own_ids original.source) file.source) []
+abbrev pub differences : Option LanguagePlurals → List File → List File → File → File → List Finding
+differences plurals mine theirs file original =
+    of_firsts (compared plurals (shown_ids mine file) (shown_ids theirs original) (own_ids file.source) (own_ids original.source) file.source) []
     (parts file.source)

@@ -62,7 +62,7 @@ module _ (rules : Rules) (catalogs : Catalogs) (before : List Declaration) (file
   abbrev pub found_in_pair : FileFound → List Finding
   found_in_pair r =
       by_place (new_among r.findings (found_after (Some (own_ids r.file.source)))
-      ++ (differences catalogs.mine catalogs.theirs file r.file ++ gaps file r.file))
+      ++ (differences rules.plurals catalogs.mine catalogs.theirs file r.file ++ gaps file r.file))
 
   -- if that is there
   abbrev pub found_with : Option FileFound → LanguageFile

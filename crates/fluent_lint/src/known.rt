@@ -11,6 +11,7 @@ use crate::ids::{add_ids, add_known_functions};
 use crate::read::ReadFiles;
 use crate::reports::Options;
 use fluent_ids::FluentIds;
+use fluent_plurals::LanguagePlurals;
 use lint_comparison::{Reference, called_functions};
 use lint_finding::CatalogIds;
 use std::alloc::{AllocError, Global};
@@ -115,16 +116,17 @@ impl<'r, 's> Known<'r, 's> {
     /// What entries of the catalog are compared with: the reference, if it has files.
     pub fn comparison<'c>(
         &'c self,
+        plurals: Option<LanguagePlurals>,
         references: &'r ReadFiles<'_, 's>,
     ) -> Option<Reference<'c, 'r, 's>>
-        ensures { compare_with result ≡ compared self.now references.now.files.now }
+        ensures { compare_with result ≡ compared self.now plurals references.now.files.now }
     {
         match references.files {
             [] => None,
             [_, ..] => Some(Reference {
                 ids: &self.ids,
                 reference: &self.reference,
-                trees: &references.trees,
+                plurals,
             }),
         }
     }

@@ -9,12 +9,14 @@ ghost use Rattle.fluent_lint.specs.Reading.{IsRead};
 ghost use Rattle.fluent_lint.specs.ReferenceView.{IsReference};
 
 use crate::known::Known;
+use crate::looked::Looked;
 use crate::original::{LanguageFindings, Original};
 use crate::own::{OwnFiles, own_files};
 use crate::pairs::{Found, OwnFile, found_alone, found_in_pair, found_obsolete};
 use crate::read::ReadFiles;
 use crate::reference::ReferenceCatalog;
 use crate::reports::Options;
+use crate::silence::hear;
 use crate::terms::terms_of;
 use fluent_plurals::LanguagePlurals;
 use lint_endless::EndlessPatterns;
@@ -28,15 +30,15 @@ use std::alloc::{AllocError, Global};
 /// Each is translated from what is at its index, and one beyond the last of these is looked at by
 /// itself. Messages are compared with those of the file that theirs is translated from, and
 /// references are looked up in all files of the language. What is found in that file of the
-/// reference as well is left out.
+/// reference as well is left out, and so is what comments leave out.
 ///
 /// # Errors
 /// [`AllocError`] if memory runs out; nothing is kept.
-pub fn language_findings<'r, 's: 'r>(
+pub fn language_findings<'m, 'r: 'm, 's: 'r>(
     alloc: Global,
     reference: &ReferenceCatalog<'_, '_, 'r, 's>,
     plurals: Option<LanguagePlurals>,
-    files: &'r ReadFiles<'_, 's>,
+    files: &'m ReadFiles<'_, 's>,
     originals: &[Original],
 ) -> Result<LanguageFindings<'s>, AllocError>
     requires reference { IsReference reference.now }
@@ -69,11 +71,11 @@ pub fn language_findings<'r, 's: 'r>(
 }
 
 /// What is found in each of these files.
-fn found_in_files<'r, 's>(
+fn found_in_files<'m, 's>(
     alloc: Global,
-    rules: &Rules<'_, 'r, 's>,
-    reference: &ReferenceCatalog<'_, '_, 'r, 's>,
-    own: &OwnFiles<'r, 's>,
+    rules: &Rules<'_, 'm, 's>,
+    reference: &ReferenceCatalog<'_, '_, '_, 's>,
+    own: &OwnFiles<'m, 's>,
     originals: &[Original],
 ) -> Result<LanguageFindings<'s>, AllocError>
     requires reference { IsReference reference.now }
@@ -86,7 +88,7 @@ fn found_in_files<'r, 's>(
     let mut others = Declarations::new(alloc);
     for (index, tiles) in own.tiles.iter().enumerate() {
         let original = originals.get(index).copied().unwrap_or(Original::Unasked);
-        let found = found_for(
+        let mut found = found_for(
             alloc,
             rules,
             reference,
@@ -94,6 +96,8 @@ fn found_in_files<'r, 's>(
             original,
             &mut others,
         )?;
+        let looked = Looked::in_language(rules.catalog.plurals, original);
+        hear(alloc, Some(looked), tiles.file.source, &mut found.findings)?;
         files.push(FileFindings {
             file: tiles.file,
             findings: found.findings,
@@ -104,11 +108,11 @@ fn found_in_files<'r, 's>(
 }
 
 /// What is found in a file, by what it is translated from.
-fn found_for<'r, 's>(
+fn found_for<'m, 's>(
     alloc: Global,
-    rules: &Rules<'_, 'r, 's>,
-    reference: &ReferenceCatalog<'_, '_, 'r, 's>,
-    file: OwnFile<'_, 'r, 's>,
+    rules: &Rules<'_, 'm, 's>,
+    reference: &ReferenceCatalog<'_, '_, '_, 's>,
+    file: OwnFile<'_, 'm, 's>,
     original: Original,
     others: &mut Declarations<'s>,
 ) -> Result<Found, AllocError>
@@ -119,9 +123,7 @@ fn found_for<'r, 's>(
 {
     match original {
         Original::File(index) => match reference.file(index) {
-            Some(other) => {
-                found_in_pair(alloc, rules, &reference.read.trees, file, other, others)
-            }
+            Some(other) => found_in_pair(alloc, rules, file, other, others),
             None => found_alone(alloc, rules, file.tiles, others),
         },
         Original::Lacking => found_obsolete(alloc, rules, file.tiles, others),

@@ -62,7 +62,7 @@ pub fn obsolete_file(alloc: Global, messages: usize) -> Result<Finding, AllocErr
 }
 
 /// A finding that is of no entry.
-fn finding(severity: Severity, code: &'static str, offset: usize, text: String) -> Finding
+pub fn finding(severity: Severity, code: &'static str, offset: usize, text: String) -> Finding
     ensures { finding_view result ≡ of_file (severity_view severity) code.now offset (string_bytes text) }
 {
     Finding {

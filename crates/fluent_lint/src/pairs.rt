@@ -16,7 +16,6 @@ use crate::original::Messages;
 use crate::reported::order;
 use crate::taken::push_taken;
 use crate::tiles::FileTiles;
-use fluent_ast::Resource;
 use lint_entries::Declarations;
 use lint_files::{Rules, file_findings, syntax_findings};
 use lint_finding::{CatalogIds, Finding};
@@ -53,12 +52,11 @@ pub struct Found {
 ///
 /// # Errors
 /// [`AllocError`] if memory runs out; nothing is kept.
-pub fn found_in_pair<'r, 's>(
+pub fn found_in_pair<'s>(
     alloc: Global,
-    rules: &Rules<'_, 'r, 's>,
-    trees: &'r [Resource<&'s str>],
-    file: OwnFile<'_, 'r, 's>,
-    original: OriginalFile<'_, 'r, 's>,
+    rules: &Rules<'_, '_, 's>,
+    file: OwnFile<'_, '_, 's>,
+    original: OriginalFile<'_, '_, 's>,
     others: &mut Declarations<'s>,
 ) -> Result<Found, AllocError>
     requires file { IsOwn file }
@@ -74,7 +72,13 @@ pub fn found_in_pair<'r, 's>(
         &mut findings,
     )?;
     keep_new(&mut findings, original.known);
-    push_differences(alloc, trees, file, original.file, &mut findings)?;
+    push_differences(
+        alloc,
+        rules.catalog.plurals,
+        file,
+        original.file,
+        &mut findings,
+    )?;
     let translated = push_gaps(alloc, file.tiles, original.file.tiles, &mut findings)?;
     order(&mut findings)?;
     Ok(Found {

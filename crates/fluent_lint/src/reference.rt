@@ -155,6 +155,6 @@ fn found_in_catalog<'r, 's: 'r>(
         reference: known.no_comparison(),
     };
     let tiles = tiles_of_files(alloc, files)?;
-    let found = catalog_findings(alloc, &rules, &tiles)?;
+    let found = catalog_findings(alloc, &rules, None, &tiles)?;
     Ok(found)
 }

@@ -38,7 +38,7 @@ pub fn order(findings: &mut Vec<Finding>) -> Result<(), AllocError>
 }
 
 /// Whether a code is among these.
-fn is_among(code: &str, codes: &[&str]) -> bool
+pub fn is_among(code: &str, codes: &[&str]) -> bool
     ensures { result ≡ is_among code.now (texts codes.now) }
 {
     codes.iter().any(|other| *other == code)

@@ -14,6 +14,7 @@ ghost use Rattle.lint_report.specs.ReportView.{summary_view};
 use crate::counts::{entry_count, shown_counts};
 use crate::findings::all_findings;
 use crate::known::Known;
+use crate::looked::Looked;
 use crate::read::{ReadFiles, read_files};
 use crate::reported::keep_reported;
 use crate::terms::terms_of;
@@ -59,10 +60,10 @@ pub struct Report {
     pub has_failed: bool,
 }
 
-/// The report of a catalog: the findings of its files whose code isn't ignored, and whether one of
-/// them fails. With files of a reference, which it is translated from, also the messages that it
-/// lacks and the counts of files, which are of all findings; the functions that the reference calls
-/// are known then.
+/// The report of a catalog: the findings of its files that no comment leaves out and whose code
+/// isn't ignored, and whether one of them fails. With files of a reference, which it is translated
+/// from, also the messages that it lacks and the counts of files, which are of ignored findings,
+/// too; the functions that the reference calls are known then.
 ///
 /// # Errors
 /// [`AllocError`] if memory runs out, or a file nests so deep that reading it would take more of
@@ -163,9 +164,10 @@ fn report_read_files<'r, 's: 'r>(
         functions: &known.functions,
         catalog,
         terms: &terms,
-        reference: known.comparison(references),
+        reference: known.comparison(options.plurals, references),
     };
-    report_by_rules(alloc, output, &rules, references, files)
+    let looked = Looked::in_catalog(options.plurals, references.files);
+    report_by_rules(alloc, output, &rules, looked, references, files)
 }
 
 /// The report of files and of those of a reference, by the rules for findings.
@@ -173,17 +175,18 @@ fn report_by_rules<'r, 's: 'r>(
     alloc: Global,
     output: Output<'_>,
     rules: &Rules<'_, '_, 's>,
+    looked: Looked,
     references: &'r ReadFiles<'_, 's>,
     files: &'r ReadFiles<'_, 's>,
 ) -> Result<Report, AllocError>
     requires references { IsRead references.now }
     requires files { IsRead files.now }
-    ensures { IfOk result (IsReportBy (rules_view rules.now) references.now.files.now files.now.files.now output.entry) }
+    ensures { IfOk result (IsReportBy (rules_view rules.now) looked references.now files.now output.entry) }
 {
     let count = files.files.len();
     let references = tiles_of_files(alloc, references)?;
     let files = tiles_of_files(alloc, files)?;
-    let mut found = all_findings(alloc, rules, &references, &files)?;
+    let mut found = all_findings(alloc, rules, looked, &references, &files)?;
     let counts = shown_counts(alloc, output, &references, &files, &found)?;
     keep_reported(&mut found, output.ignored);
     let entries = entry_count(&files)?;

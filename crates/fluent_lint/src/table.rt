@@ -131,7 +131,10 @@ impl Messages {
 }
 
 /// The sum of two counts.
-fn sum(one: usize, other: usize) -> Result<usize, AllocError>
+///
+/// # Errors
+/// [`AllocError`] if it is more than `usize` can count.
+pub fn sum(one: usize, other: usize) -> Result<usize, AllocError>
     ensures { IfOk result (λ both. both ≡ one + other) }
 {
     one.checked_add(other).ok_or(AllocError)

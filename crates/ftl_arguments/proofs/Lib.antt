@@ -1,4 +1,5 @@
 pub mod Found
+pub mod Explained
 pub mod Parsed
 mod Rows
 pub mod ArgumentsBehind

@@ -1,18 +1,18 @@
 -- What a parse by `clap` says of the words.
 use Rattle.std.proofs.Common.{◌≡◌, ◌∙◌, Bool, true, List, [], ◌∷◌, Option, None, Result, Ok, Err, ap, refl, subst, sym, inl, inr}
-use Rattle.std.specs.Prelude.{IsErrOf}
+use Rattle.std.specs.Prelude.{IsErrOf, is_some}
 use Rattle.clap.specs.Words.{App, HasKind, HasMatchesOf, IsAmong, Kinds, Text, fault_of, is_simple, is_simple_and_free, kind_of, subcommand_of, subcommand_rows_of}
 use Rattle.clap.specs.declared.error.Error.{Error}
 use Rattle.clap.specs.declared.error.kind.ErrorKind.{ErrorKind}
 use Rattle.clap.specs.declared.error.kind.ErrorKind.TheVariants.{DisplayHelp, DisplayVersion, OutOfMemory}
 use Rattle.clap.specs.declared.parser.matches.ArgMatches.{ArgMatches}
-use Rattle.ftl_arguments.specs.CommandView.{AskFor, IfBad, IsTextOf}
+use Rattle.ftl_arguments.specs.CommandView.{AskFor, IfBad, IsMet, IsTextOf}
 use Rattle.ftl_arguments.specs.Commands.{program_app}
 use Rattle.ftl_arguments.specs.declared.commands.Invocation.{Invocation}
-use Rattle.ftl_arguments.specs.declared.commands.Invocation.TheVariants.{Command, Help, Version}
+use Rattle.ftl_arguments.specs.declared.commands.Invocation.TheVariants.{Command, Explanation, Help, Version}
 use Rattle.ftl_arguments.specs.declared.errors.CommandError.{CommandError}
 use Rattle.ftl_arguments.specs.declared.errors.CommandError.TheVariants.{Memory, Bad}
-use Rattle.ftl_arguments.specs.Meaning.{Asked, asked_of, command_of, faults_of, without_faults}
+use Rattle.ftl_arguments.specs.Meaning.{Asked, asked_of, command_of, explained_of, faults_of, without_faults}
 
 program_is_simple : is_simple program_app ≡ true
 program_is_simple = refl
@@ -24,12 +24,25 @@ module _ (app : App) (is : app ≡ program_app) (words : List Text) where
   pub no_faults : (is_simple_and_free app ≡ true → fault_of app words ≡ []) → faults_of words ≡ []
   no_faults taken = ap (λ a. fault_of a words) (sym is) ∙ taken (ap is_simple_and_free is ∙ program_is_free)
 
+  -- what was found for the command
+  pub rows_are : (m : ArgMatches) → HasMatchesOf app words m → subcommand_of program_app words ≡ subcommand_rows_of m
+  rows_are m matches = ap (λ a. subcommand_of a words) (sym is) ∙ sym (matches (ap is_simple is ∙ program_is_simple)).1
+
   -- what is asked, where nothing is wrong
   pub asked : (colours : Bool) (m : ArgMatches) → HasMatchesOf app words m → faults_of words ≡ [] →
       command_of colours words ≡ asked_of colours (subcommand_rows_of m)
   asked colours m matches none =
       ap (λ k. without_faults k (asked_of colours (subcommand_of program_app words))) none
-      ∙ ap (asked_of colours) (ap (λ a. subcommand_of a words) (sym is) ∙ sym (matches (ap is_simple is ∙ program_is_simple)).1)
+      ∙ ap (asked_of colours) (rows_are m matches)
+
+  -- and what was met is what the words ask for
+  pub met_asked : (colours : Bool) (m : ArgMatches) → HasMatchesOf app words m → faults_of words ≡ [] →
+      (i : Invocation) → IsMet colours m i → AskFor colours words i
+  met_asked colours m matches none (Command command) met = asked colours m matches none ∙ met
+  met_asked colours m matches none (Help text) met = absurd met
+  met_asked colours m matches none (Version line) met = absurd met
+  met_asked colours m matches none (Explanation text) met =
+      (asked colours m matches none ∙ met.0, (none, subst (λ found. is_some (explained_of found) ≡ true) (sym (rows_are m matches)) met.1))
 
   -- an error that tells of no refused growth has a kind that the words make
   pub among : (e : Error) → (is_simple_and_free app ≡ true → HasKind (fault_of app words) e) → (kind_of e ≡ OutOfMemory → ⊥) → IsAmong (kind_of e) (faults_of words)
@@ -74,6 +87,7 @@ module _ (colours : Bool) (words : List Text) (k : ErrorKind) (among : (k ≡ Ou
   text_asked (Help text) is =
       let one = of_kind DisplayHelp is (λ memory. absurd cc) in
       (nothing_asked colours words k one, subst (λ kind. IsAmong kind (faults_of words)) is one)
+  text_asked (Explanation text) none = absurd none
   text_asked (Version line) is =
       let one = of_kind DisplayVersion is.0 (λ memory. absurd cc) in
       (nothing_asked colours words k one, (subst (λ kind. IsAmong kind (faults_of words)) is.0 one, is.1))

@@ -1,9 +1,11 @@
 -- What some words ask for, by computing. How `clap` reads options, and what it refuses, is in `tests/rows`, too.
-use Rattle.std.proofs.Common.{◌≡◌, [], ◌∷◌, true, false, Some, None, refl, codes}
+use Rattle.std.proofs.Common.{◌≡◌, List, [], ◌∷◌, true, false, Option, Some, None, refl, codes}
+use Rattle.clap.specs.Words.{Text, subcommand_of}
 use Rattle.clap.specs.declared.error.kind.ErrorKind.TheVariants.{MissingRequiredArgument, UnknownArgument}
 use Rattle.clap.proofs.OnLiterals.{clap_on_literals}
 use Rattle.lint_findings.specs.Output.{json, terminal, text}
-use Rattle.ftl_arguments.specs.Meaning.{AskForHelpAlone, AskForVersionAlone, check, clean, command_of, faults_of, format, join, lint, lint_input, lint_project, run, status, tidy, tidy_files, tidy_input}
+use Rattle.ftl_arguments.specs.Meaning.{AskForHelpAlone, AskForVersionAlone, check, clean, command_of, explained_of, faults_of, format, join, lint, lint_input, lint_project, run, status, tidy, tidy_files, tidy_input}
+use Rattle.ftl_arguments.specs.Commands.{program_app}
 use Rattle.ftl_arguments.specs.Projects.{markdown}
 
 no_file : faults_of (codes "run" ∷ codes "--overriding" ∷ []) ≡ MissingRequiredArgument ∷ []
@@ -176,7 +178,8 @@ codes_to_select : command_of false (codes "lint" ∷ codes "--select" ∷ codes 
           ∷ codes "unknown-term-variant" ∷ codes "unknown-category" ∷ codes "unused-category" ∷ codes "replacement-character" ∷ codes "control-character"
           ∷ codes "zero-width" ∷ codes "unbalanced-direction" ∷ codes "unused-term" ∷ codes "missing-message" ∷ codes "missing-value"
           ∷ codes "missing-attribute" ∷ codes "obsolete-value" ∷ codes "obsolete-attribute" ∷ codes "unknown-variable" ∷ codes "missing-variable"
-          ∷ codes "unused-variable" ∷ codes "obsolete-message" ∷ codes "missing-file" ∷ codes "missing-locale" ∷ codes "obsolete-file" ∷ [];
+          ∷ codes "unused-variable" ∷ codes "obsolete-message" ∷ codes "variant-lacks-variable" ∷ codes "plural-dropped"
+          ∷ codes "term-as-text" ∷ codes "missing-file" ∷ codes "missing-locale" ∷ codes "obsolete-file" ∷ codes "unused-ignore" ∷ [];
       locale = None;
       notes = true;
       counts = false;
@@ -186,6 +189,22 @@ codes_to_select : command_of false (codes "lint" ∷ codes "--select" ∷ codes 
     }))
 unfolding clap_on_literals
 codes_to_select = refl
+
+abbrev explains : List Text → Option Text
+explains words = explained_of (subcommand_of program_app words)
+
+-- what a code means is no command
+explained_code : explains (codes "lint" ∷ codes "--explain" ∷ codes "no-value" ∷ []) ≡ Some (codes "no-value")
+unfolding clap_on_literals
+explained_code = refl
+
+no_command : command_of false (codes "lint" ∷ codes "--explain" ∷ codes "no-value" ∷ []) ≡ None
+unfolding clap_on_literals
+no_command = refl
+
+no_code_to_explain : explains (codes "lint" ∷ codes "--explain" ∷ codes "value" ∷ []) ≡ None
+unfolding clap_on_literals
+no_code_to_explain = refl
 
 no_such_code_among_these : command_of false (codes "lint" ∷ codes "--select" ∷ codes "syntax,value" ∷ codes "a" ∷ []) ≡ None
 unfolding clap_on_literals
@@ -248,6 +267,8 @@ the_project_of_the_folder : command_of false (codes "lint" ∷ [])
       only = [];
       functions = [];
       ignored = [];
+      baseline = None;
+      written = None;
       notes = false;
       strict = false;
       format = text;
@@ -261,12 +282,29 @@ a_project_with_options : command_of false (codes "lint" ∷ codes "l10n.toml" �
       only = codes "de" ∷ [];
       functions = [];
       ignored = [];
+      baseline = None;
+      written = None;
       notes = false;
       strict = false;
       format = text;
     }))
 unfolding clap_on_literals
 a_project_with_options = refl
+
+a_project_with_a_baseline : command_of false (codes "lint" ∷ codes "--baseline" ∷ codes "old.jsonl" ∷ codes "--write-baseline=new.jsonl" ∷ [])
+    ≡ Some (lint_project (record {
+      project = record { references = []; files = []; locales = []; variables = [] };
+      only = [];
+      functions = [];
+      ignored = [];
+      baseline = Some (codes "old.jsonl");
+      written = Some (codes "new.jsonl");
+      notes = false;
+      strict = false;
+      format = text;
+    }))
+unfolding clap_on_literals
+a_project_with_a_baseline = refl
 
 patterns_of_a_project : command_of false (codes "status" ∷ codes "--reference" ∷ codes "en/**" ∷ codes "{locale}/**" ∷ codes "--files" ∷ codes "--format=markdown" ∷ [])
     ≡ Some (status (record {
@@ -284,6 +322,10 @@ a_reference_of_a_file_of_a_project = refl
 an_option_of_projects : command_of false (codes "lint" ∷ codes "--only" ∷ codes "a" ∷ codes "b" ∷ []) ≡ None
 unfolding clap_on_literals
 an_option_of_projects = refl
+
+a_baseline_of_files : command_of false (codes "lint" ∷ codes "--baseline" ∷ codes "old.jsonl" ∷ codes "b" ∷ []) ≡ None
+unfolding clap_on_literals
+a_baseline_of_files = refl
 
 files_are_no_project : command_of false (codes "status" ∷ codes "a.ftl" ∷ []) ≡ None
 unfolding clap_on_literals

@@ -1,5 +1,5 @@
 -- What the code's commands stand for.
-use Rattle.std.specs.Prelude.{◌≡◌, Bool, List, Option, None, Some, option_copied, option_map, Result, IfErr, string_bytes}
+use Rattle.std.specs.Prelude.{◌≡◌, Bool, List, Option, None, Some, true, is_some, option_copied, option_map, Result, IfErr, string_bytes}
 use Rattle.std.specs.Global.{Vec}
 use denote.Ref.{Bor}
 use Rattle.clap.specs.Words.{Row, Text, found_of, rows_of, subcommand_rows_of}
@@ -11,7 +11,7 @@ use Rattle.ftl_arguments.specs.Linting.{Lint}
 use Rattle.ftl_arguments.specs.Projects.{Project, ProjectLint, Status, TableFormat, plain, lines, markdown, project_linting}
 use Rattle.ftl_arguments.specs.TidyFiles.{TidyFiles}
 use Rattle.ftl_arguments.specs.Meaning as asked
-use Rattle.ftl_arguments.specs.Meaning.{AskForHelp, AskForVersion, Asked, Format, asked_by, asked_of, command_of, linting, texts, tidying_by}
+use Rattle.ftl_arguments.specs.Meaning.{AskForExplanation, AskForHelp, AskForVersion, Asked, Format, asked_by, asked_of, command_of, explained_by, explained_of, linting, texts, tidying_by}
 use Rattle.ftl_arguments.specs.Version.{version_line}
 use Rattle.ftl_arguments.specs.declared.commands.Command.{Command}
 use Rattle.ftl_arguments.specs.declared.commands.Command.TheVariants as command
@@ -85,6 +85,8 @@ project_lint_view l = record {
   only = texts l.only.items;
   functions = texts l.functions.items;
   ignored = texts l.ignored.items;
+  baseline = option_map (λ file. file.now) l.baseline;
+  written = option_map (λ file. file.now) l.written;
   notes = l.notes;
   strict = l.strict;
   format = report.format_view l.format;
@@ -119,12 +121,14 @@ abbrev pub AskFor : Bool → List Text → Invocation → Type 0
 AskFor colours words (invocation.Command command) = command_of colours words ≡ Some (command_view command)
 AskFor colours words (invocation.Help text) = (command_of colours words ≡ None) × AskForHelp words
 AskFor colours words (invocation.Version line) = (command_of colours words ≡ None) × (AskForVersion words × (string_bytes line ≡ version_line))
+AskFor colours words (invocation.Explanation text) = (command_of colours words ≡ None) × AskForExplanation words
 
 -- an error of this kind stands for the text
 abbrev pub IsTextOf : ErrorKind → Invocation → Type 0
 IsTextOf kind (invocation.Command command) = ⊥
 IsTextOf kind (invocation.Help text) = kind ≡ DisplayHelp
 IsTextOf kind (invocation.Version line) = (kind ≡ DisplayVersion) × (string_bytes line ≡ version_line)
+IsTextOf kind (invocation.Explanation text) = ⊥
 
 -- what was found for a command
 abbrev pub found_rows : ArgMatches → List Row
@@ -133,6 +137,20 @@ found_rows found = rows_of (found_of found)
 -- what the command that was met asks for
 abbrev pub asked_in : Bool → ArgMatches → Option Asked
 asked_in colours matches = asked_of colours (subcommand_rows_of matches)
+
+-- the code whose explanation it asks for
+abbrev pub explained : ArgMatches → Option Text
+explained matches = explained_of (subcommand_rows_of matches)
+
+abbrev pub explained_with : Text → ArgMatches → Option Text
+explained_with name found = explained_by (name, found_rows found)
+
+-- what was met: a command, or the explanation of a code
+abbrev pub IsMet : Bool → ArgMatches → Invocation → Type 0
+IsMet colours matches (invocation.Command command) = asked_in colours matches ≡ Some (command_view command)
+IsMet colours matches (invocation.Help text) = ⊥
+IsMet colours matches (invocation.Version line) = ⊥
+IsMet colours matches (invocation.Explanation text) = (asked_in colours matches ≡ None) × (is_some (explained matches) ≡ true)
 
 -- what the command of a name asks for, with what was found for it
 abbrev pub asked_with : Bool → Text → ArgMatches → Option Asked

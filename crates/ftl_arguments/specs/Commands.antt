@@ -82,11 +82,19 @@ abbrev pub linting_rules : List Rule
 linting_rules = reported_rules ++ flag_rule (codes "strict") ∷ default_rule (codes "format") (codes "text") ∷ default_rule (codes "color") (codes "auto") ∷ []
 
 -- and which files of a project
+abbrev pub within_rules : List Rule
+within_rules = linting_rules ++ each_rule (codes "only") ∷ each_rule (codes "define") ∷ []
+
+-- and the findings that it had
 abbrev pub project_rules : List Rule
-project_rules = linting_rules ++ each_rule (codes "only") ∷ each_rule (codes "define") ∷ []
+project_rules = within_rules ++ option_rule (codes "baseline") ∷ option_rule (codes "write-baseline") ∷ []
+
+-- or the code that is to be explained
+abbrev pub explaining_rules : List Rule
+explaining_rules = project_rules ++ option_rule (codes "explain") ∷ []
 
 abbrev pub lint_shape : Shape
-lint_shape = shaped (codes "lint") (project_rules ++ project_paths_rule ∷ [])
+lint_shape = shaped (codes "lint") (explaining_rules ++ project_paths_rule ∷ [])
 
 -- which project and languages are counted
 abbrev pub chosen_rules : List Rule

@@ -1,5 +1,5 @@
 -- What `lint` is asked for.
-use Rattle.std.specs.Prelude.{Bool, true, false, not, ◌&&◌, ◌||◌, ◌==◌, ◌++◌, if◌then◌else◌, List, [], ◌∷◌, Option, Some, None, option_map, option_and_then, codes}
+use Rattle.std.specs.Prelude.{Bool, true, false, not, ◌&&◌, ◌||◌, ◌==◌, ◌++◌, if◌then◌else◌, List, [], ◌∷◌, Option, Some, None, is_some, option_map, option_and_then, codes}
 use Rattle.std.specs.List.{filter, flat_map, list_all, list_any, slice_split}
 use Rattle.std.specs.Option.{option_map_or}
 use Rattle.std.specs.Str.{bytes_eq}
@@ -39,7 +39,7 @@ finding_codes =
     ∷ codes "unused-category" ∷ codes "replacement-character" ∷ codes "control-character" ∷ codes "zero-width" ∷ codes "unbalanced-direction"
     ∷ codes "unused-term" ∷ codes "missing-message" ∷ codes "missing-value" ∷ codes "missing-attribute" ∷ codes "obsolete-value"
     ∷ codes "obsolete-attribute" ∷ codes "unknown-variable" ∷ codes "missing-variable" ∷ codes "unused-variable" ∷ codes "obsolete-message"
-    ∷ codes "untranslated" ∷ codes "missing-file" ∷ codes "missing-locale" ∷ codes "obsolete-file" ∷ []
+    ∷ codes "untranslated" ∷ codes "variant-lacks-variable" ∷ codes "plural-dropped" ∷ codes "term-as-text" ∷ codes "missing-file" ∷ codes "missing-locale" ∷ codes "obsolete-file" ∷ codes "unused-ignore" ∷ []
 
 abbrev pub is_code : Text → Bool
 is_code name = list_any (λ code. bytes_eq code name) finding_codes
@@ -150,9 +150,24 @@ lint_with rows report_format = record {
   files = values_in (codes "PATH") rows;
 }
 
+-- the code that is to be explained
+abbrev pub code_of : Text → Option Text
+code_of name = if is_code name then Some name else None
+
+abbrev pub explained_in : List Row → Option Text
+explained_in rows = option_and_then code_of (first_of (codes "explain") rows)
+
+-- an explanation is asked for, of a code or of anything else
+abbrev pub asks_explanation : List Row → Bool
+asks_explanation rows = is_some (first_of (codes "explain") rows)
+
 -- the codes are those of findings, messages can call the functions, and there is what is counted
+abbrev pub are_sound_names : List Row → Bool
+are_sound_names rows = are_known rows && (list_all is_function_name (functions_in rows) && has_what_it_counts rows)
+
+-- and no explanation is asked for
 abbrev pub is_sound : List Row → Bool
-is_sound rows = are_known rows && (list_all is_function_name (functions_in rows) && has_what_it_counts rows)
+is_sound rows = not (asks_explanation rows) && are_sound_names rows
 
 -- With anything else nothing is asked for, nor with another format or choice of colours.
 abbrev pub lint_in : List Row → Option Lint

@@ -1,5 +1,5 @@
 -- What words ask for, by what `clap` makes of them.
-use Rattle.std.specs.Prelude.{◌≡◌, ◌⊎◌, Bool, not, if◌then◌else◌, List, [], ◌∷◌, Option, Some, None, map, option_map, option_and_then, codes}
+use Rattle.std.specs.Prelude.{◌≡◌, ◌⊎◌, Bool, not, if◌then◌else◌, List, [], ◌∷◌, Option, Some, None, is_some, true, map, option_map, option_and_then, codes}
 use Rattle.std.specs.Str.{bytes_eq}
 use denote.Ref.{Bor}
 use Rattle.clap.specs.Words.{Kinds, IsAmong, Row, Text, fault_of, first_of, subcommand_of}
@@ -7,7 +7,7 @@ use Rattle.clap.specs.declared.error.kind.ErrorKind.TheVariants.{DisplayHelp, Di
 use Rattle.fluent_serve.specs.Requests.{Request, request_of_parts}
 use Rattle.ftl_arguments.specs.Commands.{program_app}
 use Rattle.ftl_arguments.specs.Found.{is_given, values_in, locale_in, file_in, files_in}
-use Rattle.ftl_arguments.specs.Linting.{Lint, lint_on}
+use Rattle.ftl_arguments.specs.Linting.{Lint, explained_in, lint_on}
 use Rattle.ftl_arguments.specs.Projects.{ProjectLint, Status, has_own_options, names_project, project_linting, status_in}
 use Rattle.ftl_arguments.specs.TidyFiles.{TidyFiles, is_input, tidy_files_in}
 
@@ -162,9 +162,20 @@ AskForVersion words = IsAmong DisplayVersion (faults_of words)
 abbrev pub AskForVersionAlone : List Text → Type 0
 AskForVersionAlone words = faults_of words ≡ DisplayVersion ∷ []
 
--- a request for one of the two texts, of help or of the version
+-- the code whose explanation is asked for by what was found for a command, which is `lint`
+abbrev pub explained_by : Text × List Row → Option Text
+explained_by found = if bytes_eq found.0 (codes "lint") then explained_in found.1 else None
+
+abbrev pub explained_of : Option (Text × List Row) → Option Text
+explained_of found = option_and_then explained_by found
+
+-- Nothing is wrong with the words, and they ask for the explanation of a code.
+abbrev pub AskForExplanation : List Text → Type 0
+AskForExplanation words = (faults_of words ≡ []) × (is_some (explained_of (subcommand_of program_app words)) ≡ true)
+
+-- a request for one of the texts, of help, of the version or of what a code means
 abbrev pub AskForText : List Text → Type 0
-AskForText words = AskForHelp words ⊎ AskForVersion words
+AskForText words = AskForHelp words ⊎ (AskForVersion words ⊎ AskForExplanation words)
 
 abbrev pub texts : List (Bor Text) → List Text
 texts words = map (λ w. w.now) words

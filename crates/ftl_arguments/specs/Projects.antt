@@ -1,5 +1,5 @@
 -- What `lint` and `status` are asked for of a project.
-use Rattle.std.specs.Prelude.{Bool, true, false, not, ◌&&◌, ◌||◌, ◌==◌, ℕ, if◌then◌else◌, List, [], ◌∷◌, Option, Some, None, option_map, option_and_then, codes}
+use Rattle.std.specs.Prelude.{Bool, true, false, not, ◌&&◌, ◌||◌, ◌==◌, ℕ, if◌then◌else◌, List, [], ◌∷◌, Option, Some, None, is_some, option_map, option_and_then, codes}
 use Rattle.std.specs.List.{ends_with, list_any}
 use Rattle.std.specs.Option.{option_map_or}
 use Rattle.std.specs.Str.{bytes_eq}
@@ -27,6 +27,9 @@ pub record ProjectLint : Type 0 where
   pub only : List Text
   pub functions : List Text
   pub ignored : List Text
+  -- the file of findings that aren't reported, and the one that is to have the findings
+  pub baseline : Option Text
+  pub written : Option Text
   pub notes : Bool
   pub strict : Bool
   pub format : Format
@@ -93,9 +96,19 @@ abbrev pub project_in : List Row → Option Project
 project_in rows =
     if has_references_for (references_in rows) (values_in (codes "PATH") rows) then option_map (project_with rows) (variables_in rows) else None
 
+-- the values of `--baseline` and `--write-baseline`
+abbrev pub baseline_in : List Row → Option Text
+baseline_in rows = first_of (codes "baseline") rows
+
+abbrev pub written_in : List Row → Option Text
+written_in rows = first_of (codes "write-baseline") rows
+
+abbrev pub has_baseline : List Row → Bool
+has_baseline rows = is_some (baseline_in rows) || is_some (written_in rows)
+
 -- an option that is of projects alone
 abbrev pub has_own_options : List Row → Bool
-has_own_options rows = is_any (values_in (codes "only") rows) || is_any (values_in (codes "define") rows)
+has_own_options rows = is_any (values_in (codes "only") rows) || (is_any (values_in (codes "define") rows) || has_baseline rows)
 
 abbrev pub project_lint_with : List Row → Lint → Project → ProjectLint
 project_lint_with rows l project = record {
@@ -103,6 +116,8 @@ project_lint_with rows l project = record {
   only = values_in (codes "only") rows;
   functions = l.functions;
   ignored = l.ignored;
+  baseline = baseline_in rows;
+  written = written_in rows;
   notes = l.notes;
   strict = l.strict;
   format = l.format;

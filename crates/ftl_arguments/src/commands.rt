@@ -11,6 +11,8 @@ pub enum Invocation<'words> {
     Help(String),
     /// The version, which is this line.
     Version(String),
+    /// What findings of a code mean, which is this text.
+    Explanation(&'static str),
 }
 
 /// A command of the program.
@@ -128,6 +130,10 @@ pub struct ProjectLint<'words> {
     pub functions: Vec<&'words str>,
     /// The codes of findings that are left out.
     pub ignored: Vec<&'words str>,
+    /// The file of findings that aren't reported, if there is one.
+    pub baseline: Option<&'words str>,
+    /// The file that is to have the findings, if they are written to one.
+    pub written: Option<&'words str>,
     /// Whether notes are reported, too.
     pub notes: bool,
     /// Whether warnings count for the status.

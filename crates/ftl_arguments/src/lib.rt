@@ -1,7 +1,8 @@
 //! The command-line arguments of the program `ftl`, read by `clap`.
 //!
-//! [`command`] returns what the arguments ask for, an [`Invocation`]: a [`Command`], help or the
-//! version. If they ask for nothing, a [`CommandError`] says what is wrong with them.
+//! [`command`] returns what the arguments ask for, an [`Invocation`]: a [`Command`], help, the
+//! version or the explanation of a code. If they ask for nothing, a [`CommandError`] says what is
+//! wrong with them.
 #![tactic(auto)]
 
 mod advising;
@@ -10,6 +11,8 @@ mod colours;
 mod commands;
 mod elsewhere;
 mod errors;
+mod explaining;
+mod explanations;
 mod formatting;
 mod linting;
 mod program;

@@ -11,13 +11,14 @@ ghost use Rattle.lint_report.specs.Formats.{format_view};
 
 use crate::codes::{ignored_in, is_any};
 use crate::commands::Lint;
+use crate::explaining::asks_explanation;
 use crate::reading::{WordsError, is_given, locale_in, values_in};
 use clap::ArgMatches;
 use lint_report::Format as ReportFormat;
 use std::alloc::Global;
 
 /// The codes that findings have.
-pub(crate) const CODES: [&str; 38] = [
+pub(crate) const CODES: [&str; 42] = [
     "syntax",
     "byte-order-mark",
     "duplicate-id",
@@ -53,17 +54,21 @@ pub(crate) const CODES: [&str; 38] = [
     "unused-variable",
     "obsolete-message",
     "untranslated",
+    "variant-lacks-variable",
+    "plural-dropped",
+    "term-as-text",
     "missing-file",
     "missing-locale",
     "obsolete-file",
+    "unused-ignore",
 ];
 
 /// What was found for `lint`.
 ///
 /// # Errors
-/// [`WordsError::Bad`]: there is no such format or choice of colours; or no finding has such a
-/// code, no message can call such a function, or counts are asked for without a reference.
-/// [`WordsError::Memory`]: memory ran out.
+/// [`WordsError::Bad`]: an explanation is asked for; there is no such format or choice of colours;
+/// or no finding has such a code, no message can call such a function, or counts are asked for
+/// without a reference. [`WordsError::Memory`]: memory ran out.
 pub(crate) fn lint_in<'words>(
     alloc: Global,
     found: &ArgMatches<'words>,
@@ -72,6 +77,9 @@ pub(crate) fn lint_in<'words>(
         lint_in (found_rows found.now) ≡ Some (lint_view lint)) }
     ensures nothing { IfRefused result (lint_in (found_rows found.now) ≡ None) }
 {
+    if asks_explanation(found) {
+        return Err(WordsError::Bad);
+    }
     let Some(format) = report_format_in(found) else {
         return Err(WordsError::Bad);
     };

@@ -5,9 +5,9 @@ ghost use Rattle.ftl_arguments.specs.Commands.{IsShaped, IsLocal, shaped, with_c
 ghost use Rattle.ftl_arguments.specs.Commands.{flag_rule, option_rule, each_rule, default_rule};
 ghost use Rattle.ftl_arguments.specs.Commands.{id_rule, file_rule, files_rule};
 ghost use Rattle.ftl_arguments.specs.Commands.{bare_program, program_app, asking_rules, flagged_rules, format_shape, run_shape};
-ghost use Rattle.ftl_arguments.specs.Commands.{filtered_rules, known_rules, lint_shape, linting_rules, project_paths_rule, project_rules, reported_rules, with_reports, with_tidying};
+ghost use Rattle.ftl_arguments.specs.Commands.{filtered_rules, known_rules, lint_shape, linting_rules, project_paths_rule, explaining_rules, project_rules, reported_rules, with_reports, with_tidying, within_rules};
 
-use crate::status::{only, project_paths, variable, with_status};
+use crate::status::{baseline, only, project_paths, variable, with_status, written};
 use crate::tidying::{PATHS, with_tidy};
 use crate::version::VERSION;
 use clap::{Arg, ArgAction, Command};
@@ -34,7 +34,8 @@ Codes:
   replacement-character, control-character, zero-width, unbalanced-direction, unused-term,
   missing-message, missing-value, missing-attribute, obsolete-value, obsolete-attribute,
   unknown-variable, missing-variable, unused-variable, obsolete-message, untranslated,
-  missing-file, missing-locale, obsolete-file
+  variant-lacks-variable, plural-dropped, term-as-text, missing-file, missing-locale,
+  obsolete-file, unused-ignore
 
 Example: ftl lint --reference locales/en locales/de";
 
@@ -191,7 +192,7 @@ fn with_lint<'a>(alloc: Global, program: Command<'a>) -> Result<Command<'a>, All
 fn lint<'a>(alloc: Global) -> Result<Command<'a>, AllocError>
     ensures { IfOk result (IsShaped lint_shape) }
 {
-    in_project(alloc)?
+    explaining(alloc)?
         .after_help(CODES_AND_EXAMPLE)
         .arg(lint_paths(alloc))
 }
@@ -204,8 +205,22 @@ fn lint_paths<'a>(alloc: Global) -> Arg<'a>
 }
 
 /// The command `lint` without its paths.
+fn explaining<'a>(alloc: Global) -> Result<Command<'a>, AllocError>
+    ensures { IfOk result (IsShaped (shaped (codes "lint") explaining_rules)) }
+{
+    in_project(alloc)?.arg(explained(alloc))
+}
+
+/// The same without the code that is to be explained.
 fn in_project<'a>(alloc: Global) -> Result<Command<'a>, AllocError>
     ensures { IfOk result (IsShaped (shaped (codes "lint") project_rules)) }
+{
+    within(alloc)?.arg(baseline(alloc))?.arg(written(alloc))
+}
+
+/// The same without the findings that a project had.
+fn within<'a>(alloc: Global) -> Result<Command<'a>, AllocError>
+    ensures { IfOk result (IsShaped (shaped (codes "lint") within_rules)) }
 {
     reporting(alloc)?.arg(only(alloc))?.arg(variable(alloc))
 }
@@ -341,6 +356,13 @@ fn selected<'a>(alloc: Global) -> Arg<'a>
     each(alloc, "select", "CODE").help(
         "Report findings with this code alone, notes too; several as a,b (repeatable)",
     )
+}
+
+/// The code that `lint` explains.
+fn explained<'a>(alloc: Global) -> Arg<'a>
+    ensures { IsLocal (option_rule (codes "explain")) result }
+{
+    option(alloc, "explain", "CODE").help("Print what a code means, and how to mend it")
 }
 
 /// Whether `lint` counts in each file what the reference has.

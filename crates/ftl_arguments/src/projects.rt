@@ -6,7 +6,7 @@ ghost use Rattle.ftl_arguments.specs.CommandView.{IfRefused, command_view, found
 ghost use Rattle.ftl_arguments.specs.Found.{values_in};
 ghost use Rattle.ftl_arguments.specs.Linting.{is_any};
 ghost use Rattle.ftl_arguments.specs.Meaning.{texts};
-ghost use Rattle.ftl_arguments.specs.Projects.{has_brace, has_own_options, has_references_for, is_file_of_project, is_patterns, locales_in, names_project, project_in, status_in, table_format_in, table_format_named, variables_in};
+ghost use Rattle.ftl_arguments.specs.Projects.{baseline_in, has_baseline, has_brace, has_own_options, has_references_for, is_file_of_project, is_patterns, locales_in, names_project, project_in, status_in, table_format_in, table_format_named, variables_in, written_in};
 
 use crate::codes::{code_list, is_any};
 use crate::commands::{Command, Lint, ProjectLint, ProjectWords, Status, TableFormat};
@@ -46,7 +46,28 @@ pub(crate) fn linting<'words>(
 fn has_own_options(found: &ArgMatches<'_>) -> bool
     ensures { result ≡ has_own_options (found_rows found.now) }
 {
-    has_files(found) || has_variables(found)
+    has_files(found) || has_variables(found) || has_baseline(found)
+}
+
+/// Whether a file of findings was named.
+fn has_baseline(found: &ArgMatches<'_>) -> bool
+    ensures { result ≡ has_baseline (found_rows found.now) }
+{
+    baseline_in(found).is_some() || written_in(found).is_some()
+}
+
+/// The file of findings that aren't reported, if one was named.
+fn baseline_in<'words>(found: &ArgMatches<'words>) -> Option<&'words str>
+    ensures { option_map (λ file. file.now) result ≡ baseline_in (found_rows found.now) }
+{
+    found.get_str("baseline")
+}
+
+/// The file that is to have the findings, if one was named.
+fn written_in<'words>(found: &ArgMatches<'words>) -> Option<&'words str>
+    ensures { option_map (λ file. file.now) result ≡ written_in (found_rows found.now) }
+{
+    found.get_str("write-baseline")
 }
 
 /// Whether files were named that are reported alone.
@@ -81,6 +102,8 @@ fn project_linting<'words>(
         only: values_in(alloc, found, "only")?,
         functions: lint.functions,
         ignored: lint.ignored,
+        baseline: baseline_in(found),
+        written: written_in(found),
         notes: lint.notes,
         strict: lint.strict,
         format: lint.format,

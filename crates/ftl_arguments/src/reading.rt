@@ -3,7 +3,7 @@ ghost use Rattle.std.specs.Prelude.{◌≡◌, IfOk, IfErr, IsErrOf, Some, None,
 ghost use Rattle.clap.specs.Words.{kind_of};
 ghost use Rattle.ftl_arguments.specs.Meaning.{AskForHelpAlone, AskForVersionAlone, command_of, texts};
 ghost use Rattle.ftl_arguments.specs.Found.{file_in, files_in, is_given, locale_in, values_in};
-ghost use Rattle.ftl_arguments.specs.CommandView.{AskFor, IfBad, IfRefused, IsTextOf};
+ghost use Rattle.ftl_arguments.specs.CommandView.{AskFor, IfBad, IfRefused, IsMet, IsTextOf};
 ghost use Rattle.ftl_arguments.specs.CommandView.{asked_in, asked_with, command_view, found_rows, tidying_with};
 ghost use Rattle.ftl_arguments.specs.declared.reading.WordsError.TheVariants.{Memory};
 
@@ -11,6 +11,7 @@ use crate::advising::{advice_by, advice_on};
 use crate::colours::lint_on;
 use crate::commands::{Command, Invocation, Tidy};
 use crate::errors::CommandError;
+use crate::explaining::explanation;
 use crate::formatting::format_in;
 use crate::program::program;
 use crate::projects::{linting, status_in};
@@ -38,8 +39,8 @@ impl From<AllocError> for WordsError {
 }
 
 /// Reads the command-line arguments: a command, its options and its files, as `clap` has them, or a
-/// request for help or for the version. `colours` says whether a screen shows the report of `lint`
-/// in colours, if the arguments leave that open.
+/// request for help, for the version or for the explanation of a code. `colours` says whether a
+/// screen shows the report of `lint` in colours, if the arguments leave that open.
 ///
 /// ```no_run
 /// match command(alloc, &["lnit", "a.ftl"], false) {
@@ -61,11 +62,27 @@ pub fn command<'words>(
     ensures not_version { IfBad result (¬ AskForVersionAlone (texts words.now)) }
 {
     match program(alloc)?.try_get_matches_from(words) {
-        Ok(matches) => {
-            let command = command_or_advice(alloc, words, &matches, colours)?;
+        Ok(matches) => met(alloc, words, &matches, colours),
+        Err(error) => text_asked(alloc, words, &error),
+    }
+}
+
+/// What was met: the explanation of a code, or a command, or what is wrong with it.
+fn met<'words>(
+    alloc: Global,
+    words: &[&str],
+    matches: &ArgMatches<'words>,
+    colours: bool,
+) -> Result<Invocation<'words>, CommandError>
+    ensures met { IfOk result (IsMet colours matches.now) }
+    ensures nothing { IfBad result (asked_in colours matches.now ≡ None) }
+{
+    match explanation(matches) {
+        Some(text) => Ok(Invocation::Explanation(text)),
+        None => {
+            let command = command_or_advice(alloc, words, matches, colours)?;
             Ok(Invocation::Command(command))
         }
-        Err(error) => text_asked(alloc, words, &error),
     }
 }
 

@@ -79,7 +79,8 @@ impl<'words> Refused<'words> {
 
 /// What `lint` refuses.
 fn refused_by_lint<'words>(found: &ArgMatches<'words>) -> Option<Refused<'words>> {
-    refused_way(found)
+    refused_explanation(found)
+        .or_else(|| refused_way(found))
         .or_else(|| refused_name(found))
         .or_else(|| refused_project(found))
 }
@@ -98,6 +99,16 @@ fn refused_project<'words>(found: &ArgMatches<'words>) -> Option<Refused<'words>
     }
     if found.get_raw("define").is_some() {
         return Some(Refused::NoProject { option: "--define" });
+    }
+    if found.get_str("baseline").is_some() {
+        return Some(Refused::NoProject {
+            option: "--baseline",
+        });
+    }
+    if found.get_str("write-baseline").is_some() {
+        return Some(Refused::NoProject {
+            option: "--write-baseline",
+        });
     }
     None
 }
@@ -172,6 +183,19 @@ fn refused_name<'words>(found: &ArgMatches<'words>) -> Option<Refused<'words>> {
         return Some(Refused::Counts);
     }
     None
+}
+
+/// A code that is to be explained, and that no finding has.
+fn refused_explanation<'words>(found: &ArgMatches<'words>) -> Option<Refused<'words>> {
+    let code = found.get_str("explain")?;
+    if is_code(code) {
+        None
+    } else {
+        Some(Refused::Code {
+            option: "--explain",
+            code,
+        })
+    }
 }
 
 /// A code that no finding has, of those that are left out or selected.

@@ -65,6 +65,22 @@ pub(crate) fn only<'a>(alloc: Global) -> Arg<'a>
     )
 }
 
+/// The file of findings of a project that `lint` doesn't report.
+pub(crate) fn baseline<'a>(alloc: Global) -> Arg<'a>
+    ensures { IsLocal (option_rule (codes "baseline")) result }
+{
+    option(alloc, "baseline", "FILE").help("In a project, leave out the findings in this file")
+}
+
+/// The file that is to have the findings of a project.
+pub(crate) fn written<'a>(alloc: Global) -> Arg<'a>
+    ensures { IsLocal (option_rule (codes "write-baseline")) result }
+{
+    option(alloc, "write-baseline", "FILE").help(
+        "In a project, write the findings to this file, and report none",
+    )
+}
+
 /// A variable of the patterns of a project.
 pub(crate) fn variable<'a>(alloc: Global) -> Arg<'a>
     ensures { IsLocal (each_rule (codes "define")) result }

@@ -13,10 +13,11 @@ use Rattle.ftl_arguments.specs.declared.errors.CommandError.TheVariants as why
 use Rattle.ftl_arguments.specs.declared.commands.Command.{Command}
 use Rattle.ftl_arguments.specs.declared.commands.Invocation.{Invocation}
 use Rattle.ftl_arguments.specs.declared.commands.Invocation.TheVariants as of
-use Rattle.clap.specs.Words.{IsAmong, subcommand_of}
+use denote.Ref.{Bor}
+use Rattle.clap.specs.Words.{IsAmong, Kinds, subcommand_of}
 use Rattle.clap.specs.declared.error.kind.ErrorKind.{ErrorKind}
 use Rattle.clap.specs.declared.error.kind.ErrorKind.TheVariants.{DisplayHelp, DisplayVersion}
-use Rattle.ftl_arguments.specs.Meaning.{AskForHelp, AskForText, AskForVersion, AskForVersionAlone, Asked, asked_of, command_of, faults_of, without_faults, run, format, check, lint, lint_input, lint_project, status, tidy_files, tidy_input, tidy}
+use Rattle.ftl_arguments.specs.Meaning.{AskForExplanation, AskForHelp, AskForText, AskForVersion, AskForVersionAlone, Asked, asked_of, command_of, faults_of, without_faults, run, format, check, lint, lint_input, lint_project, status, tidy_files, tidy_input, tidy}
 use Rattle.ftl_command.specs.Ends.{seen, IsUntouched}
 use Rattle.ftl_command.specs.Faults.{IsBadLine, SaysUnknown, status_of}
 use Rattle.std.proofs.lemmas.Result.{IfErr-weaker}
@@ -139,6 +140,10 @@ no_help_asked words alone help = one (rw alone at help)
     one (inl same) = absurd cc
     one (inr none) = absurd none
 
+-- nor for what a code means
+pub no_explanation_asked : (words : List Text) → AskForVersionAlone words → AskForExplanation words → ⊥
+no_explanation_asked words alone asked = let both : ◌≡◌ {A = Kinds} [] (DisplayVersion ∷ []) = sym asked.0 ∙ alone in absurd cc
+
 -- the words are no command
 pub is_bad : {error : CommandError} {advice : Option (String Global)} → error ≡ why.Bad advice → IsBad error
 is_bad is = rw is tt
@@ -151,6 +156,10 @@ module _ (colours : Bool) (words : List Text) {invocation : Invocation} where
   -- or for help
   pub asked_help : {text : String Global} → invocation ≡ of.Help text → AskFor colours words invocation → (command_of colours words ≡ None) × AskForHelp words
   asked_help is asked = rw is at asked
+
+  -- or for what a code means
+  pub asked_explanation : {text : Bor Text} → invocation ≡ of.Explanation text → AskFor colours words invocation → (command_of colours words ≡ None) × AskForExplanation words
+  asked_explanation is asked = rw is at asked
 
   -- or for the version, which is this line
   pub asked_version : {line : String Global} → invocation ≡ of.Version line → AskFor colours words invocation →

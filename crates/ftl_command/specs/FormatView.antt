@@ -49,9 +49,10 @@ abbrev pub IsWrittenAs : Option Reply → Option Formatted → Type 0
 IsWrittenAs reply formatted = option_map formatted_view formatted ≡ option_map shown reply
 
 -- they are those that are written for a request to sources
-abbrev pub IsWritten : {M : Type 0} → KindGhosts M → M → Settings → List (Bor Text) → Request Text → Option Formatted → Type 0
-IsWritten kind plurals settings sources request formatted =
-    IsWrittenAs (reply_asked NoFunction (kind.category_of plurals) (kind.stringified plurals (Unit {0}) no_text) (settings_view settings) (texts sources) request) formatted
+abbrev pub IsWritten : {M : Type 0} → KindGhosts M → M → Settings → List (Bor Text) → Text → Option (Bor Text) → List (Bor Text × Bor Text) → Option Formatted → Type 0
+IsWritten kind plurals settings sources id attribute arguments formatted =
+    IsWrittenAs (reply_asked NoFunction (kind.category_of plurals) (kind.stringified plurals (Unit {0}) no_text) (settings_view settings) (texts sources)
+    (request_of id attribute arguments)) formatted
 
 -- the line of an error that was reported
 abbrev pub line_told : Reported → Text

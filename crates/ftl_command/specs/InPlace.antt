@@ -3,10 +3,11 @@ use Rattle.std.specs.Prelude.{◌≡◌, Bool, List, Option, None, Some, Result,
 use Rattle.std.specs.Io.KnownBytes.{Appends}
 use Rattle.fluent_serve.specs.Text.{Text}
 use denote.Ref.{Bor}
-use Rattle.ftl_arguments.specs.CommandView.{command_view, lint_view, tidy_files_view}
+use Rattle.ftl_arguments.specs.CommandView.{command_view, lint_view, project_lint_view, tidy_files_view}
 use Rattle.ftl_arguments.specs.Meaning.{Asked, command_of, run, format, check, lint, lint_input, lint_project, status, texts, tidy_files, tidy_input, tidy}
 use Rattle.ftl_arguments.specs.declared.commands.Command.{Command}
 use Rattle.ftl_arguments.specs.declared.commands.Lint as linted
+use Rattle.ftl_arguments.specs.declared.commands.ProjectLint as linted_project
 use Rattle.ftl_arguments.specs.declared.commands.TidyFiles as code
 use Rattle.ftl_arguments.specs.TidyFiles.{TidyFiles}
 use Rattle.fluent_serve.specs.Exchange.{Devices, devices}
@@ -18,9 +19,9 @@ use Rattle.ftl_files.specs.declared.folder.Folder.{Ghosts as FolderGhosts}
 use Rattle.ftl_files.specs.Tidying.{AreTidied, AreTidiedFirst, Said}
 use Rattle.ftl_command.specs.Linted.{LintEnds, LintInputEnds, Lints, LintsInput}
 use Rattle.ftl_project.specs.Ends.{IsTable}
-use Rattle.ftl_project.specs.Reports.{IsReport, Written}
+use Rattle.ftl_project.specs.Reports.{Written}
 use Rattle.ftl_command.specs.Program.{WritesFront}
-use Rattle.ftl_command.specs.Projects.{ProjectEnds}
+use Rattle.ftl_command.specs.Projects.{ProjectEnds, ProjectLintEnds}
 use Rattle.ftl_command.specs.Reported.{EndsBy}
 use Rattle.ftl_command.specs.declared.ended.Ended.{Ended}
 use Rattle.ftl_command.specs.declared.fault.Fault.{Fault}
@@ -42,7 +43,8 @@ pub record InPlaceEnds (t : TidyFiles) (before after : State) (held held_after :
   pub output : IsErrOf result Output → TidiesInPlace t before after (λ said. WritesFront held held_after said.names)
 
 -- So it is of whatever the words ask for, and of a catalog or a project that is linted; to tidy standard input no file is read or
--- written. What files hold that are only read is what they held, however the command ended.
+-- written. What files hold that are only read is what they held, however the command ended. A project that is linted may have its
+-- baseline written.
 abbrev pub FilesEnd : Option Asked → State → State → Devices → Result Ended Fault → Type 0
 FilesEnd None before after d result = after.contents ≡ before.contents
 FilesEnd (Some (run r)) before after d result = after.contents ≡ before.contents
@@ -50,7 +52,7 @@ FilesEnd (Some (format f)) before after d result = after.contents ≡ before.con
 FilesEnd (Some (check files)) before after d result = after.contents ≡ before.contents
 FilesEnd (Some (lint l)) before after d result = LintEnds l before after d.held_before d.held_after result
 FilesEnd (Some (lint_input l)) before after d result = LintInputEnds l before after d result
-FilesEnd (Some (lint_project l)) before after d result = ProjectEnds (IsReport l.format l.notes l.strict) before after d.held_before d.held_after result
+FilesEnd (Some (lint_project l)) before after d result = ProjectLintEnds l before after d.held_before d.held_after result
 FilesEnd (Some (status s)) before after d result = ProjectEnds IsTable before after d.held_before d.held_after result
 FilesEnd (Some (tidy_files t)) before after d result = InPlaceEnds t before after d.held_before d.held_after result
 FilesEnd (Some (tidy_input checked)) before after d result = after ≡ before
@@ -72,6 +74,11 @@ module _ {F W : Type 0} (folders : FolderGhosts F) (before after : F) (sink : Si
   abbrev pub ProjectEndOn : (Written → Type 0) → Result Ended Fault → Type 0
   ProjectEndOn Is result =
       ProjectEnds Is (state_of folders before) (state_of folders after) (sink.contents writer) (sink.contents writer') result
+
+  -- of a project that is linted
+  abbrev pub ProjectLintEndOn : linted_project.ProjectLint → Result Ended Fault → Type 0
+  ProjectLintEndOn l result =
+      ProjectLintEnds (project_lint_view l) (state_of folders before) (state_of folders after) (sink.contents writer) (sink.contents writer') result
 
 -- and on a reader
 module _ {F R W : Type 0} (folders : FolderGhosts F) (before after : F) (source : SourceGhosts R) (reader reader' : R) (sink : SinkGhosts W) (writer writer' : W) where

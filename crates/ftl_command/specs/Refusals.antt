@@ -200,7 +200,7 @@ pub record DevicesEnd {F R W : Type 0} (folders : FolderGhosts F) (before after 
   pub fault : IfErr result (IsFaultOf folders before after asked)
   pub stops : IfErr result (IsDeviceFault source reader reader' sink writer writer')
 
--- What becomes of words that ask for help or for the version, and for nothing else.
+-- What becomes of words that ask for a text, and for nothing else.
 pub record AnswersHelp {W : Type 0} (sink : SinkGhosts W) (writer writer' : W) (colours : Bool) (words : List Text) (result : Result Ended Fault) : Type 0 where
   -- words that are no command ask for one of the texts, if nothing is at fault
   pub text : OnOk result (command_of colours words ≡ None → AskForText words)

@@ -121,7 +121,7 @@ pub fn program_on<F: Folder, I: Source, O: Sink, T: Sink>(
 /// Does what the command-line arguments ask for. They are read first, then a run's locale is looked
 /// up, then the files are read in their order, and for a run then the request lines that `reader`
 /// gives, or for `tidy -` and `lint -` its source: see `docs/reference/protocol.md`. If the words
-/// ask for help or for the version, that is written.
+/// ask for help, for the version or for what a code means, that is written.
 ///
 /// # Errors
 /// The first fault. What was written before it stays written.
@@ -153,6 +153,7 @@ pub fn run_command<'words, F: Folder, I: Source, O: Sink>(
         Ok(Invocation::Command(command)) => do_command(folder, alloc, &command, reader, writer),
         Ok(Invocation::Help(text)) => write_asked(writer, text.as_str()),
         Ok(Invocation::Version(line)) => write_asked(writer, line.as_str()),
+        Ok(Invocation::Explanation(text)) => write_asked(writer, text),
         Err(CommandError::Bad { advice }) => Err(Fault::CommandLine { advice }),
         Err(CommandError::Memory) => Err(Fault::Memory),
     }

@@ -2,7 +2,7 @@
 
 ghost use Rattle.std.specs.Prelude.{IfOk, option_map};
 ghost use Rattle.fluent_run.specs.ReplyView.{reply_view};
-ghost use Rattle.ftl_command.specs.FormatView.{IsReply, IsWritten, IsWrittenAs, request_of};
+ghost use Rattle.ftl_command.specs.FormatView.{IsReply, IsWritten, IsWrittenAs};
 
 use crate::message_errors::error_lines;
 use fluent_resource::parse_sources;
@@ -34,7 +34,7 @@ pub fn format_message<M: MemoizerKind>(
     arguments: &[(&str, &str)],
 ) -> Result<Option<Formatted>, AllocError>
     ensures { IfOk result (IsWritten M.MemoizerKind plurals.now settings sources.now
-        (request_of id.now attribute.entry arguments.now)) }
+        id.now attribute.entry arguments.now) }
 {
     let arguments = valued_arguments(alloc, arguments)?;
     let reply = reply(alloc, sources, settings, plurals, id, attribute, &arguments)?;

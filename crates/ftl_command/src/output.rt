@@ -29,7 +29,8 @@ pub fn write_to_stream<'words, O: Sink>(writer: &mut O, text: &str) -> Result<()
     }
 }
 
-/// Writes a text that the words ask for, of help or of the version, and ends with that.
+/// Writes a text that the words ask for, of help, of the version or of what a code means, and ends
+/// with that.
 ///
 /// # Errors
 /// [`Fault::Output`] if the writer fails, or takes none of a piece that isn't empty; a front of the

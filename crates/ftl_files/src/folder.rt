@@ -122,7 +122,8 @@ pub trait Folder {
 
     /// Replaces what a file holds by these bytes, at once: at any time the file holds what it did
     /// or the bytes, whole. No other file changes, though a replacement that is cut off may leave
-    /// a new one. `old` is what the file held when it was read.
+    /// a new one. `old` is what the file held when it was read, or nothing if it isn't there: then
+    /// it is made.
     ///
     /// # Errors
     /// [`ReplaceError::Memory`] if memory runs out, [`ReplaceError::Unwritable`] if the file can't

@@ -39,7 +39,8 @@ struct Change<'a> {
 /// Replaces what a file of the system holds, if that still is `old`. The bytes are written to a new
 /// file beside it, which is then renamed over it: at any time the file is the old one or the new
 /// one, whole. Of a link the file that it leads to is replaced. New files that ended runs left
-/// beside it are removed, if they hold a front of the bytes.
+/// beside it are removed, if they hold a front of the bytes. A file that isn't there is made, if
+/// `old` is empty.
 ///
 /// # Errors
 /// Why it isn't replaced; the file is as it was.
@@ -50,7 +51,13 @@ pub(crate) fn replace_file<R: Files>(
     old: &[u8],
     bytes: &[u8],
 ) -> Result<(), NotReplaced> {
-    let path = files.canonicalize(alloc, name)?.into_string();
+    let path = match files.canonicalize(alloc, name) {
+        Ok(path) => path.into_string(),
+        Err(error) if old.is_empty() && error.kind() == ErrorKind::NotFound => {
+            return make_file(files, alloc, name, bytes);
+        }
+        Err(error) => return Err(NotReplaced::System(error)),
+    };
     let change = Change {
         path: path.as_str(),
         old,
@@ -63,6 +70,36 @@ pub(crate) fn replace_file<R: Files>(
     new.take_place(files, alloc, &found, change)?;
     remove_left(files, alloc, change, number);
     Ok(())
+}
+
+/// Makes a file with these bytes where none is: at any time there is none, or it is whole.
+fn make_file<R: Files>(
+    files: &R,
+    alloc: Global,
+    path: &str,
+    bytes: &[u8],
+) -> Result<(), NotReplaced> {
+    let NewFile {
+        file,
+        path: beside,
+        ..
+    } = NewFile::beside(files, alloc, path)?;
+    let made = match write_new(file, bytes) {
+        Ok(()) => fs::rename(files, beside.as_str(), path),
+        Err(error) => Err(error),
+    };
+    if made.is_err() {
+        let _ = fs::remove_file(files, beside.as_str());
+    }
+    made?;
+    Ok(())
+}
+
+/// Writes the bytes to a new file, and has them stored.
+fn write_new<F: OpenFile + Write + Drop>(file: F, bytes: &[u8]) -> io::Result<()> {
+    let mut new = file;
+    new.write_all(bytes)?;
+    new.sync_all()
 }
 
 /// A rename replaces a file that nobody may write, too: so it is opened for writing first, and

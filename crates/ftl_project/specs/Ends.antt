@@ -1,5 +1,7 @@
 -- What becomes of a project that is linted or counted.
-use Rattle.std.specs.Prelude.{◌≡◌, false, string_bytes}
+use Rattle.std.specs.Prelude.{◌≡◌, [], None, Option, Some, String, false, string_bytes}
+use Rattle.std.specs.Global.{Global}
+use Rattle.fluent_grammar.specs.Words.{Text}
 use Rattle.lint_report.specs.Formats.{format_view}
 use Rattle.ftl_arguments.specs.declared.commands.ProjectLint.{ProjectLint}
 use Rattle.ftl_files.specs.States.{state_of}
@@ -20,11 +22,19 @@ IsTable w = w.has_failed ≡ false
 
 -- what is asked for
 abbrev pub IsAsked : Work → Written → Type 0
-IsAsked (work.Lint l) w = IsReportFor l.now w
+IsAsked (work.Lint l known) w = IsReportFor l.now w
 IsAsked (work.Status s) w = IsTable w
 
 abbrev pub written_in : ProjectEnd → Written
 written_in e = record { text = string_bytes e.text; has_failed = e.has_failed }
+
+-- the text of the baseline, if one is to be written
+abbrev pub text_or_none : Option (String Global) → Text
+text_or_none None = []
+text_or_none (Some text) = string_bytes text
+
+abbrev pub baseline_of : ProjectEnd → Text
+baseline_of e = text_or_none e.baseline
 
 abbrev pub unread_in : ProjectEnd → Unread
 unread_in e = record { errors = string_bytes e.errors; reported = e.reported }

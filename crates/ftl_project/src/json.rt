@@ -79,7 +79,7 @@ fn push_if_shown(
 }
 
 /// Whether a finding of this severity is shown.
-fn is_shown(severity: Severity, notes: bool) -> bool
+pub(crate) fn is_shown(severity: Severity, notes: bool) -> bool
     ensures { result ≡ is_shown notes (severity_view severity) }
 {
     match severity {
@@ -131,7 +131,7 @@ fn finding_value(
 }
 
 /// Puts a text at a key.
-fn put_text(
+pub(crate) fn put_text(
     members: &mut Map<String, Value>,
     alloc: Global,
     key: &str,
@@ -144,7 +144,7 @@ fn put_text(
 }
 
 /// Puts a text at a key, or null if there is none.
-fn put_optional(
+pub(crate) fn put_optional(
     members: &mut Map<String, Value>,
     alloc: Global,
     key: &str,

@@ -1,6 +1,5 @@
 //! What is found in the languages of a project.
 ghost use Rattle.std.specs.Prelude.{◌≡◌, IfOk, OnOk};
-ghost use Rattle.fluent_lint.specs.Reading.{IsRead};
 ghost use Rattle.fluent_lint.specs.ReferenceView.{IsReference};
 ghost use Rattle.ftl_project.specs.Counted.{IsCounted, counts_in};
 
@@ -12,8 +11,8 @@ use crate::project::Project;
 use crate::reference::ReferenceFile;
 use crate::sources::Sources;
 use fluent_lint::{
-    Counts, LanguageFindings, Messages, Options, Original, ReadFiles, ReferenceCatalog, counts_of,
-    language_findings, missing_locale, read_files,
+    Counts, LanguageFindings, Looked, Messages, Options, Original, ReferenceCatalog, counts_of,
+    hear, language_findings, missing_locale, read_files,
 };
 use fluent_parser::StackBudget;
 use fluent_plurals::LanguagePlurals;
@@ -95,13 +94,28 @@ fn lint_group<'s>(
     languages: &mut Vec<Linted<'s>>,
 ) -> Result<Vec<FileFindings<'s>>, AllocError> {
     let theirs = read_files(alloc, &group.theirs, StackBudget::PROGRAM)?;
-    for language in &group.languages {
-        let mine = read_files(alloc, &language.mine, StackBudget::PROGRAM)?;
-        languages.push(lint_read(alloc, project, functions, &theirs, &mine, language)?)?;
-    }
     let reference = ReferenceCatalog::new(alloc, reference_options(functions), &theirs)?;
-    Ok(reference.into_findings())
+    for language in &group.languages {
+        languages.push(lint_read(alloc, project, &reference, language)?)?;
+    }
+    let mut found = reference.into_findings();
+    for file in &mut found {
+        hear(
+            alloc,
+            Some(NOTHING_ELSE),
+            file.file.source,
+            &mut file.findings,
+        )?;
+    }
+    Ok(found)
 }
+
+/// What is looked for in the reference beside flaws: no plural categories, and no differences.
+const NOTHING_ELSE: Looked = Looked {
+    plurals: false,
+    differences: false,
+    gaps: false,
+};
 
 /// What is known of the program when the reference is looked at: its plural rules are its own.
 fn reference_options<'a>(functions: &'a [&'a str]) -> Options<'a> {
@@ -111,23 +125,20 @@ fn reference_options<'a>(functions: &'a [&'a str]) -> Options<'a> {
     }
 }
 
-/// What is found in a language, by what was read of its files and of the reference.
-fn lint_read<'r, 's: 'r>(
+/// What is found in a language, by its files, which are read.
+fn lint_read<'s>(
     alloc: Global,
     project: &Project<'s>,
-    functions: &[&str],
-    theirs: &'r ReadFiles<'_, 's>,
-    mine: &'r ReadFiles<'_, 's>,
+    reference: &ReferenceCatalog<'_, '_, '_, 's>,
     language: &Language<'s>,
 ) -> Result<Linted<'s>, AllocError>
-    requires theirs { IsRead theirs.now }
-    requires mine { IsRead mine.now }
+    requires { IsReference reference.now }
     ensures { IfOk result IsCounted }
 {
-    let reference = ReferenceCatalog::new(alloc, reference_options(functions), theirs)?;
+    let mine = read_files(alloc, &language.mine, StackBudget::PROGRAM)?;
     let plurals = LanguagePlurals::for_tag(language.locale);
-    let found = language_findings(alloc, &reference, plurals, mine, &language.originals)?;
-    lint_language(alloc, project, &reference, language, found)
+    let found = language_findings(alloc, reference, plurals, &mine, &language.originals)?;
+    lint_language(alloc, project, reference, language, found)
 }
 
 /// What is found in a language, by what is found in its files.

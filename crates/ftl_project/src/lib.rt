@@ -5,6 +5,7 @@
 //! take patterns in its place, and read each file once.
 #![tactic(auto)]
 
+mod baseline;
 mod config;
 mod filtered;
 mod groups;
@@ -21,5 +22,6 @@ mod table;
 mod work;
 mod wrong;
 
+pub use baseline::write_baseline;
 pub use work::{ProjectEnd, lint_project, project_status};
 pub use wrong::ProjectError;

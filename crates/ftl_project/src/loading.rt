@@ -69,7 +69,7 @@ pub fn load_project<F: Folder>(
 }
 
 /// The bytes of the file of this name, if it can be read.
-fn bytes_of<F: Folder>(
+pub(crate) fn bytes_of<F: Folder>(
     folder: &mut F,
     alloc: Global,
     name: &str,
@@ -84,7 +84,11 @@ fn bytes_of<F: Folder>(
 }
 
 /// That the file of this name can't be read, and why, if that is known.
-fn unreadable(alloc: Global, name: &str, why: Option<&'static str>) -> Result<String, AllocError> {
+pub(crate) fn unreadable(
+    alloc: Global,
+    name: &str,
+    why: Option<&'static str>,
+) -> Result<String, AllocError> {
     match why {
         Some(why) => format!(in alloc; "{name}: cannot read: {why}"),
         None => format!(in alloc; "{name}: cannot read"),
@@ -274,7 +278,7 @@ fn own_links(alloc: Global, text: &str, links: Vec<Link>) -> Result<Vec<OwnLink>
 }
 
 /// The text of a file.
-fn text_of(alloc: Global, name: &str, bytes: Vec<u8>) -> Result<String, ProjectError> {
+pub(crate) fn text_of(alloc: Global, name: &str, bytes: Vec<u8>) -> Result<String, ProjectError> {
     let row = bad_row(&bytes);
     match String::from_utf8(bytes) {
         Ok(text) => Ok(text),

@@ -5,6 +5,7 @@ ghost use Rattle.lint_finding.specs.View.{findings_view};
 ghost use Rattle.lint_report.specs.Changes.{Appends};
 ghost use Rattle.ftl_project.specs.Reports.{IsReportBy, all_found, group_fails, group_lines, group_name, group_view, groups_view, has_failure, text_by, text_of_group};
 
+use crate::baseline::Baseline;
 use crate::json::push_json_findings;
 use crate::language::{Linted, LintedFile};
 use crate::project::Project;
@@ -30,16 +31,30 @@ pub struct Group<'s> {
 pub struct ProjectReport {
     pub text: String,
     pub has_failed: bool,
+    /// The text of the baseline that has what is left out, if one is written.
+    pub baseline: Option<String>,
 }
 
-/// The report on these groups. Those of languages fail if they have an error, or with
-/// `output.strict` a warning.
+/// Which findings aren't reported.
+#[derive(Clone, Copy)]
+pub enum Known<'c> {
+    /// None is known.
+    Nothing,
+    /// Those of a baseline are known.
+    Baseline(&'c Baseline),
+    /// All are, and a baseline of them is written.
+    All,
+}
+
+/// The report on these groups, without what is known. Those of languages fail if they have an
+/// error, or with `output.strict` a warning.
 ///
 /// # Errors
 /// [`AllocError`] if memory runs out; nothing is kept.
 pub fn report_groups(
     alloc: Global,
     output: Output<'_>,
+    known: Known<'_>,
     groups: Vec<Group<'_>>,
 ) -> Result<ProjectReport, AllocError>
     ensures { IfOk result (IsReportBy output.entry) }
@@ -48,14 +63,50 @@ pub fn report_groups(
     for group in &mut groups {
         keep_reported(&mut group.found, output.ignored);
     }
-    report_kept(alloc, output, groups)
+    match known {
+        Known::Nothing => report_kept(alloc, output, groups, None),
+        Known::Baseline(baseline) => {
+            let groups = new_groups(alloc, baseline, groups)?;
+            report_kept(alloc, output, groups, None)
+        }
+        Known::All => {
+            let baseline = Baseline::of_groups(alloc, output.notes, &groups)?;
+            let text = baseline.text(alloc)?;
+            let groups = new_groups(alloc, &baseline, groups)?;
+            report_kept(alloc, output, groups, Some(text))
+        }
+    }
 }
 
-/// The report on groups, of which all findings are reported.
+/// The same groups without what a baseline has.
+fn new_groups<'s>(
+    alloc: Global,
+    baseline: &Baseline,
+    groups: Vec<Group<'s>>,
+) -> Result<Vec<Group<'s>>, AllocError> {
+    let mut left = Vec::with_capacity(alloc, groups.len())?;
+    for group in groups {
+        let Group {
+            locale,
+            found,
+            files,
+        } = group;
+        let found = baseline.leave_out(alloc, found)?;
+        left.push(Group {
+            locale,
+            found,
+            files,
+        })?;
+    }
+    Ok(left)
+}
+
+/// The report on groups, of which all findings are reported, and a baseline.
 fn report_kept(
     alloc: Global,
     output: Output<'_>,
     groups: Vec<Group<'_>>,
+    baseline: Option<String>,
 ) -> Result<ProjectReport, AllocError>
     ensures text { IfOk result (λ made. string_bytes made.text
         ≡ text_by output.entry (groups_view groups.entry.items)) }
@@ -64,7 +115,11 @@ fn report_kept(
 {
     let has_failed = has_language_failed(output.strict, &groups);
     let text = text_of(alloc, output, groups)?;
-    Ok(ProjectReport { text, has_failed })
+    Ok(ProjectReport {
+        text,
+        has_failed,
+        baseline,
+    })
 }
 
 /// Whether a language has an error among its findings, or with `strict` a warning.

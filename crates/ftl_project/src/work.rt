@@ -3,13 +3,14 @@ ghost use Rattle.std.specs.Prelude.{◌≡◌, IfOk};
 ghost use Rattle.ftl_project.specs.Ends.{EndsRead, IsAsked, IsReportFor, IsTable, written_in};
 ghost use Rattle.ftl_project.specs.Reports.{report_view};
 
+use crate::baseline::{Baseline, read_baseline};
 use crate::language::{LintedProject, lint_languages};
 use crate::loading::load_project;
 use crate::locating::{current_folder, find_project};
 use crate::planned::{Planned, plans_of};
 use crate::project::{Project, paths_in};
 use crate::reference::{ReferenceFile, reference_files};
-use crate::report::{Group, ProjectReport, group_of, group_of_reference, report_groups};
+use crate::report::{Group, Known, ProjectReport, group_of, group_of_reference, report_groups};
 use crate::sources::{Sources, lent, read_project};
 use crate::table::{rows_of, table};
 use crate::wrong::ProjectError;
@@ -30,13 +31,15 @@ pub struct ProjectEnd {
     pub errors: String,
     /// Which errors these lines report.
     pub reported: Reported,
+    /// The text of the baseline that is to be written, if one is.
+    pub baseline: Option<String>,
 }
 
 /// What is done with the languages of a project.
 #[derive(Clone, Copy)]
 enum Work<'a> {
-    /// What is found in them is reported.
-    Lint(&'a ProjectLint<'a>),
+    /// What is found in them is reported, but for what is known.
+    Lint(&'a ProjectLint<'a>, &'a Known<'a>),
     /// What is counted in them is written.
     Status(&'a Status<'a>),
 }
@@ -63,7 +66,23 @@ pub fn lint_project<F: Folder>(
     ensures read { IfOk result (EndsRead F.Folder folder.old folder.new) }
     ensures kept { F.contents folder.new ≡ F.contents folder.old }
 {
-    with_project(folder, alloc, &lint.project, Work::Lint(lint))
+    let baseline = match lint.baseline {
+        Some(name) => Some(read_baseline(folder, alloc, name)?),
+        None => None,
+    };
+    let known = known_by(&baseline, lint.written);
+    with_project(folder, alloc, &lint.project, Work::Lint(lint, &known))
+}
+
+/// What is known, by the baseline that was read, and the name of one that is to be written.
+fn known_by<'b>(baseline: &'b Option<Baseline>, written: Option<&str>) -> Known<'b> {
+    match written {
+        Some(_) => Known::All,
+        None => match baseline {
+            Some(baseline) => Known::Baseline(baseline),
+            None => Known::Nothing,
+        },
+    }
 }
 
 /// The table of a project: what is counted in each of its languages.
@@ -228,6 +247,7 @@ impl Asked<'_> {
             has_failed: report.has_failed,
             errors: sources.errors,
             reported: sources.reported,
+            baseline: report.baseline,
         })
     }
 
@@ -259,12 +279,13 @@ impl Asked<'_> {
         let functions = self.functions(project)?;
         let linted = lint_languages(self.alloc, project, &functions, references, plan, sources)?;
         match self.work {
-            Work::Lint(lint) => self.report(project, references, linted, lint),
+            Work::Lint(lint, known) => self.report(project, references, linted, lint, known),
             Work::Status(status) => {
                 let rows = rows_of(self.alloc, status.files, references, &linted.languages)?;
                 Ok(ProjectReport {
                     text: table(self.alloc, status.format, &rows)?,
                     has_failed: false,
+                    baseline: None,
                 })
             }
         }
@@ -274,7 +295,7 @@ impl Asked<'_> {
     fn functions<'f>(&'f self, project: &'f Project<'_>) -> Result<Vec<&'f str>, AllocError> {
         let mut functions = Vec::new(self.alloc);
         functions.extend_from_slice(&project.functions)?;
-        if let Work::Lint(lint) = self.work {
+        if let Work::Lint(lint, _) = self.work {
             functions.extend_from_slice(&lint.functions)?;
         }
         Ok(functions)
@@ -287,6 +308,7 @@ impl Asked<'_> {
         references: &[ReferenceFile<'s>],
         linted: LintedProject<'s>,
         lint: &ProjectLint<'_>,
+        known: &Known<'_>,
     ) -> Result<ProjectReport, AllocError>
         ensures { IfOk result (λ made. IsReportFor lint.now (report_view made)) }
     {
@@ -311,7 +333,7 @@ impl Asked<'_> {
         for language in languages {
             groups.push(group_of(alloc, project, &only, language)?)?;
         }
-        report_groups(alloc, output, groups)
+        report_groups(alloc, output, *known, groups)
     }
 }
 

@@ -12,7 +12,7 @@ use Rattle.lint_comparison.specs.Lacks.{lacking}
 use Rattle.lint_comparison.specs.LackingAttributes.{names_of}
 use Rattle.lint_comparison.specs.declared.lack.Lack.TheVariants as of
 use Rattle.lint_endless.specs.declared.names.Names.{Names}
-use Rattle.lint_comparison.proofs.Lacking.{both_added}
+use Rattle.lint_comparison.proofs.LackedNames.{both_added}
 
 module _ (a b d e : List c.Difference) where
   pub own_added : (m o : t.Message) (as' bs cs ds : List t.Attribute) → as' ≡ o.attributes → bs ≡ m.attributes → cs ≡ m.attributes → ds ≡ o.attributes → b ≡ a ++ value_difference m.value o.value →

@@ -8,7 +8,7 @@ use Rattle.lint_finding.specs.View.{finding_view}
 use Rattle.lint_finding.specs.declared.records.Finding.{Finding}
 use Rattle.lint_findings.specs.ComparisonFindings.{difference_finding}
 use Rattle.fluent_grammar.specs.Words.{Text}
-use Rattle.lint_comparison.proofs.Lacking.{any_default}
+use Rattle.lint_comparison.proofs.LackedNames.{any_default}
 
 pub next_finding : (source id s : Text) (known : List Text) (ds : List Difference) (i : ℕ) (default : Difference) → i < length ds → (old new : List Finding) (one : Finding) → new ≡ old ++ one ∷ [] →
     finding_view one ≡ difference_finding source id s known (difference_view (get_or ds i default)) → map finding_view old ≡ map (difference_finding source id s known) (map difference_view (take i ds)) →

@@ -1,4 +1,4 @@
-pub mod Lacking
+pub mod LackedNames
 pub mod SameMessages
 pub mod ComparedParts
 pub mod FirstPlacesAdded
@@ -11,3 +11,6 @@ pub mod Naming
 pub mod Hinting
 pub mod Variables
 pub mod NewNames
+pub mod VariantKeys
+pub mod LossesAdded
+pub mod PlainTexts

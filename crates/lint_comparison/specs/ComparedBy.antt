@@ -1,5 +1,8 @@
 -- What is found of an entry by a reference.
 use Rattle.std.specs.Prelude.{List}
+use denote.Ref.{Bor}
+use Rattle.fluent_ast.specs.Borrowed.{message_of}
+use Rattle.fluent_ast.specs.declared.Message.{Message}
 use Rattle.fluent_grammar.specs.Tree as t
 use Rattle.fluent_grammar.specs.Words.{Text}
 use Rattle.fluent_ids.specs.IdsView.{ids_view}
@@ -8,4 +11,8 @@ use Rattle.lint_findings.specs.ComparisonFindings as f
 use Rattle.lint_findings.specs.Finding.{Finding}
 
 abbrev pub compared_by : Reference → Text → t.Entry → Text → List Finding
-compared_by reference = f.message_findings (ids_view (Unit {0}) reference.ids.now) (ids_view (Unit {0}) reference.reference.now)
+compared_by reference =
+    f.message_findings (ids_view (Unit {0}) reference.ids.now) (ids_view (Unit {0}) reference.reference.now) reference.plurals
+
+abbrev pub message_compared : Reference → Text → Message (Bor Text) → Text → List Finding
+message_compared reference source message text = compared_by reference source (t.message (message_of message)) text

@@ -13,9 +13,9 @@ use Rattle.fluent_meaning.specs.Ids.{Ids}
 use Rattle.lint_endless.specs.HasNames.{HasNames}
 use Rattle.lint_endless.specs.declared.names.Names.{Names}
 
--- the findings of an entry of a catalog with this reference, in this source
-abbrev pub AreFoundIn : Ids (Unit {0}) → Ids (Unit {0}) → Text → t.Entry → Text → Vec Finding Global → Type 0
-AreFoundIn ids reference source e s found = map finding_view found.items ≡ c.message_findings ids reference source e s
+-- the findings of how a message of a catalog differs from this reference, in this source
+abbrev pub AreFoundIn : Ids (Unit {0}) → Ids (Unit {0}) → Text → t.Message → Text → Vec Finding Global → Type 0
+AreFoundIn ids reference source m s found = map finding_view found.items ≡ c.difference_findings ids reference source m s
 
 -- of an entry of the reference, at any offset
 abbrev pub IsMissingIn : Ids (Unit {0}) → Text → t.Entry → Text → Option Finding → Type 0

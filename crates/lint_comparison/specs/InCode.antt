@@ -62,7 +62,7 @@ module _ (ids reference : FluentIds (Unit {0})) where
 
   -- the findings of a message at the front of a text, in this source
   abbrev pub AreFoundOf : Text → Message (Bor Text) → Text → Vec Finding Global → Type 0
-  AreFoundOf source message text found = AreFoundIn (ids_view (Unit {0}) ids) (ids_view (Unit {0}) reference) source (t.message (message_of message)) text found
+  AreFoundOf source message text found = AreFoundIn (ids_view (Unit {0}) ids) (ids_view (Unit {0}) reference) source (message_of message) text found
 
 -- ---- of messages
 

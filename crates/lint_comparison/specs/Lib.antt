@@ -9,3 +9,7 @@ pub mod Missing
 pub mod Referred
 pub mod ComparedBy
 pub mod Hinted
+pub mod LossView
+pub mod LackingView
+pub mod WordView
+pub mod WrittenView

@@ -25,7 +25,7 @@ use std::alloc::{AllocError, Global};
 ///
 /// # Errors
 /// [`AllocError`] if memory runs out; nothing is kept.
-pub fn message_findings<'s>(
+pub fn difference_findings<'s>(
     alloc: Global,
     ids: &CatalogIds<'_, 's>,
     reference: &CatalogIds<'_, 's>,

@@ -2,12 +2,16 @@
 #![tactic(auto)]
 
 ghost use Rattle.std.specs.Prelude.{OnOk};
-ghost use Rattle.lint_comparison.specs.ComparedBy.{compared_by};
+ghost use Rattle.fluent_ast.specs.Borrowed.{message_of};
+ghost use Rattle.fluent_grammar.specs.Tree as t;
+ghost use Rattle.lint_comparison.specs.ComparedBy.{compared_by, message_compared};
 ghost use Rattle.lint_entries.specs.AttributePlaces.{IsEntryAt, bare_entry};
 ghost use Rattle.lint_entries.specs.Made.{Adds};
 
-use crate::message_findings;
-use fluent_ast::{Entry, Resource};
+use crate::findings::difference_findings;
+use crate::losses::push_loss_findings;
+use fluent_ast::{Entry, Message};
+use fluent_plurals::LanguagePlurals;
 use lint_finding::{CatalogIds, Finding};
 use std::alloc::{AllocError, Global};
 
@@ -16,8 +20,8 @@ use std::alloc::{AllocError, Global};
 pub struct Reference<'c, 'r, 's> {
     pub ids: &'c CatalogIds<'r, 's>,
     pub reference: &'c CatalogIds<'r, 's>,
-    /// The trees that the ids of the reference refer to.
-    pub trees: &'r [Resource<&'s str>],
+    /// The plural rules of the catalog's language, if plurals are looked at.
+    pub plurals: Option<LanguagePlurals>,
 }
 
 impl Reference<'_, '_, '_> {
@@ -25,7 +29,7 @@ impl Reference<'_, '_, '_> {
     /// source from the entry on.
     ///
     /// # Errors
-    /// [`AllocError`] if memory runs out; nothing is added then.
+    /// [`AllocError`] if memory runs out; some may be added then.
     pub fn compare(
         &self,
         alloc: Global,
@@ -40,17 +44,46 @@ impl Reference<'_, '_, '_> {
     {
         match entry {
             Entry::Message(message) => {
-                let mut found = message_findings(
-                    alloc,
-                    self.ids,
-                    self.reference,
-                    source,
-                    message,
-                    text,
-                )?;
-                findings.append(&mut found)
+                self.compare_message(alloc, source, message, text, findings)
             }
             _ => Ok(()),
         }
+    }
+
+    /// Adds how a message of a source of the catalog differs from that of the reference, and what
+    /// it loses of it. The text is the source from the message on.
+    ///
+    /// # Errors
+    /// [`AllocError`] if memory runs out; some may be added then.
+    pub fn compare_message(
+        &self,
+        alloc: Global,
+        source: &str,
+        message: &Message<&str>,
+        text: &[u8],
+        findings: &mut Vec<Finding>,
+    ) -> Result<(), AllocError>
+        requires { IsEntryAt (t.message (message_of message.now)) text.now }
+        ensures { OnOk result (Adds findings.old findings.new
+            (message_compared self.now source.now message.now text.now)) }
+    {
+        let mut found = difference_findings(
+            alloc,
+            self.ids,
+            self.reference,
+            source,
+            message,
+            text,
+        )?;
+        findings.append(&mut found)?;
+        push_loss_findings(
+            alloc,
+            self.reference,
+            self.plurals,
+            source,
+            message,
+            text,
+            findings,
+        )
     }
 }

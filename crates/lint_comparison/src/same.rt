@@ -51,7 +51,8 @@ fn is_same_attribute<'s>(attribute: &Attribute<&'s str>, other: &Attribute<&'s s
     other.id.name == attribute.id.name && is_same_pattern(&attribute.value, &other.value)
 }
 
-fn is_same_pattern<'s>(pattern: &Pattern<&'s str>, other: &Pattern<&'s str>) -> bool
+/// Whether two patterns are the same.
+pub fn is_same_pattern<'s>(pattern: &Pattern<&'s str>, other: &Pattern<&'s str>) -> bool
     ensures { result ≡ same_elements (elements_of pattern.now) (elements_of other.now) }
 {
     equal_nodes::<&'s str>();

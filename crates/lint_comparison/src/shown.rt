@@ -41,8 +41,9 @@ fn attributes_show(attributes: &[Attribute<&str>], name: &str) -> bool
     false
 }
 
+/// Whether some variant of a pattern shows a variable.
 #[cycle(shown)]
-fn pattern_shows(pattern: &Pattern<&str>, name: &str) -> bool
+pub fn pattern_shows(pattern: &Pattern<&str>, name: &str) -> bool
     ensures { result ≡ s.elements_show name.now (elements_of pattern.now) }
 {
     for element in &pattern.elements {
@@ -89,8 +90,9 @@ fn inline_shows(inline: &InlineExpression<&str>, name: &str) -> bool
     }
 }
 
+/// Whether the arguments of a call show a variable.
 #[cycle(shown)]
-fn arguments_show(arguments: &CallArguments<&str>, name: &str) -> bool
+pub fn arguments_show(arguments: &CallArguments<&str>, name: &str) -> bool
     ensures { result ≡ s.arguments_show name.now (arguments_of arguments.now) }
 {
     inlines_show(&arguments.positional, name)

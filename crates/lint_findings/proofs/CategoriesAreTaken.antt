@@ -1,4 +1,4 @@
--- A select has no variant for a category that it is said to lack, and some whole number below 1,000 has it.
+-- A select has no variant for a category that it is said to lack, and by its rule some whole number below 1,000 has it.
 use Rattle.std.proofs.Common.{◌≡◌, ◌∙◌, ℕ, zero, suc, ◌+◌, ◌<◌, Bool, true, false, not, ◌&&◌, ◌||◌, if◌then◌else◌, List, [], ◌∷◌, filter, Option, Some, None, refl, sym, ap, subst, arith, All, Contains}
 use Rattle.std.specs.Cmp.Lexicographic.{same_text}
 use Rattle.std.specs.List.{list_any, range_with_len}
@@ -41,11 +41,11 @@ same_named c d h =
     let texts : category_text c ≡ category_text d = same_text (category_text c) (category_text d) (sym h) in
     some_same (sym (named c) ∙ ap category_named texts ∙ named d)
 
-common_number : (plurals : LanguagePlurals) (rule : PluralRuleType) (c : PluralCategory) → is_common plurals rule c ≡ true → IsCommonNumber plurals c
+common_number : (plurals : LanguagePlurals) (rule : PluralRuleType) (c : PluralCategory) → is_common plurals rule c ≡ true → IsCommonNumber plurals rule c
 unfolding is_common
 common_number plurals rule c h =
     let found = some_in_range (λ n. same_category (whole_category plurals rule n) c) 0 1000 h in
-    (rule, found.0, found.1, same_named (whole_category plurals rule found.0) c found.2)
+    (found.0, found.1, same_named (whole_category plurals rule found.0) c found.2)
 
 none_there : {P : Type 0} (c : PluralCategory) → Contains [] c → P
 none_there c h = absurd (omega (arith, h.1))
@@ -58,7 +58,7 @@ module _ (plurals : LanguagePlurals) (i : Inline) (vs : Variants) (c : PluralCat
   abbrev is_missing : PluralCategory → Bool
   is_missing d = not (has_category (variant_keys vs) d) && is_asked plurals (selector_rule i) d
 
-  taken : is_missing c ≡ true → (HasVariantFor vs c → ⊥) × IsCommonNumber plurals c
+  taken : is_missing c ≡ true → (HasVariantFor vs c → ⊥) × IsCommonNumber plurals (selector_rule i) c
   taken h =
       let none = not_true (has_category (variant_keys vs) c) (and-left (not (has_category (variant_keys vs) c)) (is_asked plurals (selector_rule i) c) h) in
       let asked = and-right (not (has_category (variant_keys vs) c)) (is_asked plurals (selector_rule i) c) h in (
@@ -66,7 +66,7 @@ module _ (plurals : LanguagePlurals) (i : Inline) (vs : Variants) (c : PluralCat
         common_number plurals (selector_rule i) c (and-left (is_common plurals (selector_rule i) c) (not (is_lone_two plurals (selector_rule i) c)) asked),
       )
 
-  missing_taken : Contains (missing_categories plurals i vs) c → (HasVariantFor vs c → ⊥) × IsCommonNumber plurals c
+  missing_taken : Contains (missing_categories plurals i vs) c → (HasVariantFor vs c → ⊥) × IsCommonNumber plurals (selector_rule i) c
   missing_taken at = cases (list_any (has_category (variant_keys vs)) categories)
       (λ h. taken (All-contains (λ d. is_missing d ≡ true) (filter is_missing categories) c (filter_passes is_missing categories) (subst (λ (ds : List PluralCategory). Contains ds c) (ap (λ b. if b then filter is_missing categories else []) h) at)))
       (λ h. none_there c (subst (λ (ds : List PluralCategory). Contains ds c) (ap (λ b. if b then filter is_missing categories else []) h) at))

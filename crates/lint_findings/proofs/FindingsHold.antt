@@ -15,7 +15,9 @@ use Rattle.fluent_meaning.specs.Ids.{Ids, find}
 use Rattle.fluent_tidy_laws.specs.Joined.{lists}
 use Rattle.lint_findings.specs.Tiles.{Tile, entry_tile, junk_tile, tiles}
 use Rattle.lint_findings.specs.Comparison.{Difference, missing_message, obsolete_message, missing_value, obsolete_value, missing_attribute, obsolete_attribute, unknown_variable, missing_variable, unused_variable, untranslated, differences, variables_of, as_message}
-use Rattle.lint_findings.specs.ComparisonFindings.{difference_finding, message_findings, missing_findings}
+use Rattle.lint_findings.specs.ComparisonFindings.{difference_finding, difference_findings, loss_finding, loss_findings, message_findings, missing_findings}
+use Rattle.lint_findings.specs.Losses.{Loss, lacking_variant, dropped_plural, written_term, losses}
+use Rattle.fluent_plurals.specs.declared.plurals.LanguagePlurals.{LanguagePlurals}
 use Rattle.lint_findings.specs.Finding.{Finding}
 use Rattle.lint_findings.specs.SyntaxFindings.{begins_marked, mark_finding, refusal_finding, syntax_finding}
 use Rattle.lint_findings.specs.Files.{File}
@@ -46,13 +48,21 @@ module _ (S : Type 0) (rules : Rules) (file : File) where
   of_difference id s known (unused_variable x) = plain S rules file _ refl refl refl
   of_difference id s known untranslated = plain S rules file _ refl refl refl
 
-  of_message : (ids reference : Ids (Unit {0})) (e : t.Entry) (s : Text) → All (IsSound S rules file) (message_findings ids reference file.source e s)
-  of_message ids reference (t.message m) s = mapped S rules file (difference_finding file.source m.id s (variables_of reference m.id)) (of_difference m.id s (variables_of reference m.id)) (differences ids reference m.id)
-  of_message ids reference (t.term m) s = none S rules file
-  of_message ids reference (t.comment c) s = none S rules file
-  of_message ids reference (t.group_comment c) s = none S rules file
-  of_message ids reference (t.resource_comment c) s = none S rules file
-  of_message ids reference (t.junk x) s = none S rules file
+  of_loss : (id s : Text) (loss : Loss) → IsSound S rules file (loss_finding file.source id s loss)
+  of_loss id s (lacking_variant k x) = plain S rules file _ refl refl refl
+  of_loss id s (dropped_plural v) = plain S rules file _ refl refl refl
+  of_loss id s (written_term term text) = plain S rules file _ refl refl refl
+
+  of_message : (ids reference : Ids (Unit {0})) (plurals : Option LanguagePlurals) (e : t.Entry) (s : Text) → All (IsSound S rules file) (message_findings ids reference plurals file.source e s)
+  of_message ids reference plurals (t.message m) s =
+      All-append (IsSound S rules file) (difference_findings ids reference file.source m s) _
+      (mapped S rules file (difference_finding file.source m.id s (variables_of reference m.id)) (of_difference m.id s (variables_of reference m.id)) (differences ids reference m.id))
+      (mapped S rules file (loss_finding file.source m.id s) (of_loss m.id s) (losses reference plurals m))
+  of_message ids reference plurals (t.term m) s = none S rules file
+  of_message ids reference plurals (t.comment c) s = none S rules file
+  of_message ids reference plurals (t.group_comment c) s = none S rules file
+  of_message ids reference plurals (t.resource_comment c) s = none S rules file
+  of_message ids reference plurals (t.junk x) s = none S rules file
 
   unless_there : (b : Bool) (f : Finding) → IsSound S rules file f → All (IsSound S rules file) (if b then [] else f ∷ [])
   unless_there true f h = none S rules file
@@ -207,7 +217,7 @@ module _ (S : Type 0) (options : Options) (references files : List File) where
   both_rules = translation_rules options references files
 
   compares_messages : (file : File) (e : t.Entry) (s : Text) → All (IsSound S both_rules file) (both_rules.compare file.source e s)
-  compares_messages file e s = of_message S both_rules file (known_ids options references files) (known_ids options references references) e s
+  compares_messages file e s = of_message S both_rules file (known_ids options references files) (known_ids options references references) options.plurals e s
 
   pub translation_kept : All (Keeps S both_rules.ids both_rules.is_referred) (findings_of_tiles both_rules [] (flat_map tiles_in files) ++ missing_messages options references files)
   translation_kept =

@@ -7,6 +7,7 @@ mod NumberRow
 mod DateRow
 mod CategoryRows
 mod FactRows
+mod LossRows
 mod NearNameRows
 mod ComparisonRows
 mod ReferenceRows
@@ -29,6 +30,9 @@ pub mod HintsAreSo
 pub mod MisusesAreTrue
 pub mod CategoriesAreTaken
 pub mod MissingVariables
+pub mod ShowingPatterns
+pub mod WordsStand
+pub mod LossesAreTrue
 pub mod CleanReports
 pub mod Positions
 pub mod OccurrencesAreRead

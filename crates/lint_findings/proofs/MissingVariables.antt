@@ -20,7 +20,7 @@ either false b h here later = later h
 
 -- ---- what is computed is shown
 
-same_variable : (x y : Text) → bytes_eq x y ≡ true → x ≡ y
+pub same_variable : (x y : Text) → bytes_eq x y ≡ true → x ≡ y
 same_variable x y h = same_text x y (sym h)
 
 mutual
@@ -46,11 +46,11 @@ mutual
   inline_shown x (t.variable_reference y) h = subst (λ z. InlineShows (t.variable_reference y) z) (sym (same_variable x y h)) itself
   inline_shown x (t.nested e) h = in_nested (expression_shown x e h)
 
-  inlines_shown : (x : Text) (ps : Inlines) → inlines_show x ps ≡ true → InlinesShow ps x
+  pub inlines_shown : (x : Text) (ps : Inlines) → inlines_show x ps ≡ true → InlinesShow ps x
   inlines_shown x t.no_inlines h = absurd (false≢true h)
   inlines_shown x (t.positional i ps) h = either (inline_shows x i) (inlines_show x ps) h (λ k. first (inline_shown x i k)) (λ k. next (inlines_shown x ps k))
 
-message_shown : (o : t.Message) (x : Text) → message_shows o x ≡ true → MessageShows o x
+pub message_shown : (o : t.Message) (x : Text) → message_shows o x ≡ true → MessageShows o x
 message_shown o x h =
     let at = Any-from_list_any (elements_show x) (message_patterns o) h in
     (at.1, (at.0, at.2, at.3), shown x at.1 at.4)
@@ -105,7 +105,7 @@ module _ {F : Type 0} (ids reference : Ids F) (id : Text) where
         (All-append Right (new ++ lost) _ (All-append Right new lost (mapped unknown_variable (λ a x e. absurd cc) (without xs ys)) (of_losts (has_new xs ys) ys))
         (of_untranslated (same_message m o)))))
 
-  meant : (o : Option (Meaning F)) (m : t.Message) → as_message o ≡ Some m → o ≡ Some (message m)
+  pub meant : (o : Option (Meaning F)) (m : t.Message) → as_message o ≡ Some m → o ≡ Some (message m)
   meant None m e = absurd cc
   meant (Some number_function) m e = absurd cc
   meant (Some (function f)) m e = absurd cc

@@ -6,9 +6,11 @@ use Rattle.std.specs.Str.{bytes_eq}
 use Rattle.fluent_grammar.specs.Words.{Text, dot, dollar, is_among}
 use Rattle.fluent_grammar.specs.Tree as t
 use Rattle.fluent_meaning.specs.Ids.{Ids, find}
+use Rattle.fluent_plurals.specs.declared.plurals.LanguagePlurals.{LanguagePlurals}
 use Rattle.lint_findings.specs.SyntaxErrors.{in_backticks}
 use Rattle.lint_findings.specs.Tiles.{Tile, entry_tile}
 use Rattle.lint_findings.specs.Comparison.{Difference, missing_message, obsolete_message, missing_value, obsolete_value, missing_attribute, obsolete_attribute, unknown_variable, missing_variable, unused_variable, untranslated, differences, variables_of, as_message}
+use Rattle.lint_findings.specs.Losses.{Loss, losses, loss_remark}
 use Rattle.lint_findings.specs.NearNames.{nearest_hint}
 use Rattle.lint_findings.specs.Nodes.{Node, expression}
 use Rattle.lint_findings.specs.Occurrences.{Occurrence, occurrences, PatternPlace, entry_places}
@@ -69,11 +71,24 @@ difference_finding source id s known d =
 
 -- ---- of an entry
 
--- the differences of a message of the catalog, in this source
-abbrev pub message_findings : {F : Type 0} → Ids F → Ids F → Text → t.Entry → Text → List Finding
-message_findings ids reference source (t.message m) s =
+-- the differences of a message of the catalog, at the front of an end of this source
+abbrev pub difference_findings : {F : Type 0} → Ids F → Ids F → Text → t.Message → Text → List Finding
+difference_findings ids reference source m s =
     map (difference_finding source m.id s (variables_of reference m.id)) (differences ids reference m.id)
-message_findings ids reference source _ s = []
+
+-- The finding of what the message of this id loses. It is at the message.
+abbrev pub loss_finding : Text → Text → Text → Loss → Finding
+loss_finding source id s loss = finding_at (length source - length s) id (loss_remark loss)
+
+-- what it loses, by the plural rules, if plurals are looked at
+abbrev pub loss_findings : {F : Type 0} → Ids F → Option LanguagePlurals → Text → t.Message → Text → List Finding
+loss_findings reference plurals source m s = map (loss_finding source m.id s) (losses reference plurals m)
+
+-- of an entry of the catalog, in this source
+abbrev pub message_findings : {F : Type 0} → Ids F → Ids F → Option LanguagePlurals → Text → t.Entry → Text → List Finding
+message_findings ids reference plurals source (t.message m) s =
+    difference_findings ids reference source m s ++ loss_findings reference plurals source m s
+message_findings ids reference plurals source _ s = []
 
 -- of a message of the reference, in this source: whether the catalog has none
 abbrev pub missing_findings : {F : Type 0} → Ids F → Text → Tile → List Finding

@@ -125,7 +125,7 @@ translation_rules options references files = record {
   reference = known_ids options references references;
   plurals = options.plurals;
   is_referred = is_referred_in (sources files);
-  compare = message_findings (known_ids options references files) (known_ids options references references);
+  compare = message_findings (known_ids options references files) (known_ids options references references) options.plurals;
 }
 
 -- the messages that the reference has and the catalog hasn't, in the files of the reference

@@ -24,6 +24,8 @@ pub mod QuotedLaws
 pub mod TermUses
 pub mod Facts
 pub mod FlawHints
+pub mod WrittenTexts
+pub mod Losses
 pub mod SyntaxFindings
 pub mod EntryFindings
 pub mod DuplicateIds
@@ -46,4 +48,5 @@ pub mod FactLaws
 pub mod HintLaws
 pub mod MisuseLaws
 pub mod CategoryLaws
+pub mod LossLaws
 pub mod ReportLaws

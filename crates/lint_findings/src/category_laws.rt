@@ -2,8 +2,8 @@
 
 ghost use Rattle.lint_findings.specs.CategoryLaws.{MissingCategoriesAreTaken};
 
-/// A select has no variant for a category that it is said to lack, and some whole number below
-/// 1,000 has the category.
+/// A select has no variant for a category that it is said to lack, and by the rule of its selector
+/// some whole number below 1,000 has the category.
 pub fn missing_categories_are_taken()
     ensures { MissingCategoriesAreTaken }
 {}

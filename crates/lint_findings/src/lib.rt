@@ -9,3 +9,4 @@
 
 pub mod category_laws;
 pub mod laws;
+pub mod loss_laws;

@@ -34,8 +34,13 @@ mod remarks;
 mod rules;
 mod term_uses;
 
+pub use builtins::returns_number;
 pub use common::CommonCategories;
 pub use hint::near_hint;
 pub use letters::letter_remarks;
 pub use near::KnownNames;
+pub use plural_keys::category_named;
+pub use quoted::first_quoted;
 pub use remarks::node_remarks;
+pub use rules::{has_forms, selector_rule};
+pub use term_uses::{push_attributes, push_nodes};

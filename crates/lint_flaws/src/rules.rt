@@ -5,6 +5,7 @@ ghost use Rattle.std.specs.Prelude.{◌≡◌, ◌&&◌, IfOk};
 ghost use Rattle.std.specs.List.{list_any, range_with_len};
 ghost use Rattle.fluent_number.specs.Reading.{read_number};
 ghost use Rattle.fluent_ast.specs.Borrowed.{inline_of, named_of};
+ghost use Rattle.lint_findings.specs.Losses as l;
 ghost use Rattle.lint_findings.specs.MissingCategories as m;
 ghost use Rattle.lint_findings.specs.MissingCategories.{same_category, whole_category};
 ghost use Rattle.fluent_value.specs.Matching as v;
@@ -69,6 +70,16 @@ fn has_category(
     let number = FluentNumber::from(n);
     let found = plurals.category(rule, &PluralOperands::from(&number));
     category_text(found) == category_text(category)
+}
+
+/// Whether some whole number below 10 has another category than 1.
+#[tactic(auto, unfolding(lint_findings::specs::Losses::has_forms))]
+pub fn has_forms(plurals: &LanguagePlurals) -> bool
+    ensures { result ≡ l.has_forms plurals.now }
+{
+    let one = FluentNumber::from(1u16);
+    let category = plurals.category(PluralRuleType::CARDINAL, &PluralOperands::from(&one));
+    (0..10u16).any(|n| !has_category(plurals, PluralRuleType::CARDINAL, category, n))
 }
 
 /// Whether a language has a category: some whole number below 1,000 has it, or a million, or one

@@ -32,7 +32,10 @@ pub fn term_nodes<'a, 's>(
 }
 
 /// Adds the nodes of attributes.
-fn push_attributes<'a, 's>(
+///
+/// # Errors
+/// [`AllocError`] if memory runs out; some may be added then.
+pub fn push_attributes<'a, 's>(
     alloc: Global,
     attributes: &'a [Attribute<&'s str>],
     nodes: &mut Vec<Node<'a, 's>>,
@@ -47,7 +50,10 @@ fn push_attributes<'a, 's>(
 }
 
 /// Adds the nodes of a pattern.
-fn push_nodes<'a, 's>(
+///
+/// # Errors
+/// [`AllocError`] if memory runs out; none are added then.
+pub fn push_nodes<'a, 's>(
     alloc: Global,
     pattern: &'a Pattern<&'s str>,
     nodes: &mut Vec<Node<'a, 's>>,

@@ -46,6 +46,9 @@ _COMPARED = {
     "missing-variable",
     "unused-variable",
     "untranslated",
+    "variant-lacks-variable",
+    "plural-dropped",
+    "term-as-text",
 }
 
 # This note is reported without being asked for, as a hint: what is added from the reference is untranslated.

@@ -31,7 +31,7 @@ loop-tile-preserved c =
     let is : item ≡ get_or tiles i item = c.tile-item.is ∙ ap (λ (ts : List Tile). get_or ts i item) c.deref-tile-items.ensures.value in
     let inv = c.loop-tile.invariant in (
       subst (HasNames c.push_if_first.new.ids) (ids_next tiles i item inside is) (c.in_ok-push_if_first.ensures.ids _ inv.0),
-      firsts_next tiles i item inside is (compared_in c.args.file c.args.original)
+      firsts_next tiles i item inside is (compared_in c.args.plurals c.args.file c.args.original)
           (map finding_view c.args.findings.now.items) (map finding_view c.loop-tile.findings.items) (map finding_view c.push_if_first.new.findings.items)
           (c.in_ok-push_if_first.ensures.added _ inv.0) inv.1,
     )
@@ -39,10 +39,10 @@ loop-tile-preserved c =
 pub returns : goal.returns
 returns c = λ catalogs shown.
     let tiles = c.args.file.tiles.now.tiles.items in
-    let by = compared_in c.args.file c.args.original in
+    let by = compared_in c.args.plurals c.args.file c.args.original in
     let had = map finding_view c.args.findings.now.items in
     let over : length tiles ≤ c.loop-tile.tile-index = subst (λ (ts : List Tile). length ts ≤ c.loop-tile.tile-index) c.deref-tile-items.ensures.value c.loop-tile-test.false in
     c.loop-tile.invariant.1
     ∙ ap (λ l. had ++ of_firsts by [] (map tile_view l)) (take_all c.loop-tile.tile-index tiles over)
     ∙ ap (λ ps. had ++ of_firsts by [] ps) c.requires.file.tiles.parts
-    ∙ ap (λ l. had ++ l) (compared_is catalogs c.args.file c.args.original c.requires.file c.requires.original shown (parts c.args.file.tiles.now.file.source.now))
+    ∙ ap (λ l. had ++ l) (compared_is c.args.plurals catalogs c.args.file c.args.original c.requires.file c.requires.original shown (parts c.args.file.tiles.now.file.source.now))

@@ -11,4 +11,4 @@ abbrev pub invariant-loop-tile : goal.invariant-loop-tile
 invariant-loop-tile l =
     let so = map tile_view (take l.tile-index l.file.tiles.now.tiles.items) in
     HasNames l.ids (ids_through [] so)
-    × (map finding_view l.findings.items ≡ map finding_view l.initial.findings.items ++ of_firsts (compared_in l.file l.original) [] so)
+    × (map finding_view l.findings.items ≡ map finding_view l.initial.findings.items ++ of_firsts (compared_in l.plurals l.file l.original) [] so)

@@ -12,6 +12,6 @@ abbrev pub invariant-loop-file : goal.invariant-loop-file
 invariant-loop-file l =
     let rules = rules_view l.rules in
     (before : List Declaration) × AreFirst l.declarations before
-    × (findings_view l.found.items ++ found_by_files rules before (files_view (files_of (drop l.file-index l.files)))
-    ≡ found_by_files rules [] (files_view (files_of l.files)))
+    × (findings_view l.found.items ++ found_by_files rules l.looked before (files_view (files_of (drop l.file-index l.files)))
+    ≡ found_by_files rules l.looked [] (files_view (files_of l.files)))
     × (named_by l.found.items ≡ files_of (take l.file-index l.files))

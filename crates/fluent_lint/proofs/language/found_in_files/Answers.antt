@@ -1,4 +1,4 @@
-use Rattle.std.proofs.Common.{◌≡◌, ◌∙◌, ◌<◌, ◌≤◌, List, Option, [], ◌∷◌, ◌++◌, ap, arith, get_or, length, refl, rules as steps, subst, sym}
+use Rattle.std.proofs.Common.{◌≡◌, ◌∙◌, ◌<◌, ◌≤◌, List, Option, [], ◌∷◌, ◌++◌, ap, arith, get_or, length, map, refl, rules as steps, subst, sym}
 use Rattle.std.proofs.lemmas.List.{take_all}
 use Rattle.std.proofs.lemmas.Option.{unwrap_or-slice_get}
 use Rattle.std.specs.List.{slice_get}
@@ -10,6 +10,9 @@ use Rattle.lint_finding.specs.declared.records.FileFindings.{FileFindings}
 use Rattle.fluent_lint.specs.FileTiles.{files_of, files_view}
 use Rattle.fluent_lint.specs.Languages.{catalogs_of}
 use Rattle.fluent_lint.specs.ReferenceView.{files_found}
+use Rattle.fluent_lint.specs.Silence.{heard, looked_in}
+use Rattle.fluent_lint.specs.declared.looked.Looked.{Looked}
+use Rattle.lint_finding.specs.View.{finding_view}
 use Rattle.fluent_lint.specs.Taken.{declared_with}
 use Rattle.fluent_lint.specs.Translated.{LanguageFile, found_for, original_ids}
 use Rattle.fluent_lint.specs.declared.original.Original.{Original}
@@ -52,8 +55,11 @@ loop-index-preserved c =
           (findings_in c.loop-index.files.items) (findings_in c.push.new.self.items) original
           inside is_there from
           (findings_pushed c.loop-index.files.items c.push.new.self.items _ c.in_ok-push.ensures.items
-          ∙ ap (λ (l : LanguageFile). findings_in c.loop-index.files.items ++ l.findings ∷ []) (is.found_is before inv.1)
-          ∙ ap (λ (t : FileTiles). findings_in c.loop-index.files.items ++ (found_for rules catalogs before (file_view t.file) reference original).findings ∷ []) same)
+          ∙ ap (λ fs. findings_in c.loop-index.files.items ++ fs ∷ [])
+          (c.in_ok-hear.ensures
+          ∙ ap (λ (looked : Looked). heard looked (file_view item.file).source (map finding_view c.in_ok-found.found.findings.items)) c.in_language-looked.ensures
+          ∙ ap (λ (l : LanguageFile). heard (looked_in rules.plurals original) (file_view item.file).source l.findings) (is.found_is before inv.1)
+          ∙ ap (λ (t : FileTiles). heard (looked_in rules.plurals original) (file_view item.file).source (found_for rules catalogs before (file_view t.file) reference original).findings) same))
           inv.3,
       one_each rules catalogs reference c.args.originals.now (λ (l : LanguageFile). l.messages) before tiled i item
           c.loop-index.messages.items c.push-in-loop-index.new.self.items original

@@ -29,12 +29,12 @@ returns c = λ catalogs shown.
           ∙ ap (λ o. found_in_file rules file ++ taken o file before) ids_is in
           let new : map finding_view c.keep_new.new.findings.items ≡ new_among known these =
           c.keep_new.ensures ∙ ap (new_among known) taken_is in
-          let differ : map finding_view c.push_differences.new.findings.items ≡ new_among known these ++ differences catalogs.mine catalogs.theirs file other =
-          c.in_ok-push_differences.ensures catalogs shown ∙ ap (λ l. l ++ differences catalogs.mine catalogs.theirs file other) new in
-          let all : map finding_view c.push_gaps.new.findings.items ≡ new_among known these ++ (differences catalogs.mine catalogs.theirs file other ++ gaps file other) =
+          let differ : map finding_view c.push_differences.new.findings.items ≡ new_among known these ++ differences rules.plurals catalogs.mine catalogs.theirs file other =
+          c.in_ok-push_differences.ensures catalogs shown ∙ ap (λ l. l ++ differences rules.plurals catalogs.mine catalogs.theirs file other) new in
+          let all : map finding_view c.push_gaps.new.findings.items ≡ new_among known these ++ (differences rules.plurals catalogs.mine catalogs.theirs file other ++ gaps file other) =
           c.in_ok-translated.ensures.added
           ∙ ap (λ l. l ++ gaps file other) differ
-          ∙ append_assoc (new_among known these) (differences catalogs.mine catalogs.theirs file other) (gaps file other) in
+          ∙ append_assoc (new_among known these) (differences rules.plurals catalogs.mine catalogs.theirs file other) (gaps file other) in
           ap₂ made
           (ap (map finding_view) c.in_ok-order.ensures
           ∙ map-in_order finding_view (λ (f : Finding). f.offset) c.push_gaps.new.findings.items

@@ -1,4 +1,4 @@
-use Rattle.std.proofs.Common.{◌∙◌, List, [], ap, subst, sym, append-nil}
+use Rattle.std.proofs.Common.{◌∙◌, List, [], None, ap, subst, sym, append-nil}
 use Rattle.fluent_ids.specs.IdsView.{ids_view}
 use Rattle.lint_endless.specs.Catalog.{AreDeclaredIn}
 use Rattle.lint_endless.specs.EndlessView.{ids_of}
@@ -6,11 +6,12 @@ use Rattle.lint_entries.proofs.CommonIn.{in_language as common_in_language}
 use Rattle.lint_entries.specs.Terms.{is_referred}
 use Rattle.lint_files.specs.RulesView.{compare_with}
 use Rattle.lint_finding.specs.declared.records.File.{File}
-use Rattle.lint_findings.specs.Findings.{Rules}
+use Rattle.lint_findings.specs.Findings.{Rules, catalog_rules}
 use Rattle.fluent_lint.specs.FileTiles.{files_of, files_view}
 use Rattle.fluent_lint.specs.Found.{found_by_files}
 use Rattle.fluent_lint.specs.Reports.{options_view}
 use Rattle.fluent_lint.proofs.Found.{all_found, known_declared}
+use Rattle.fluent_lint.proofs.Kept.{files_found}
 use Rattle.fluent_lint.proofs.reference.found_in_catalog.Goals as goal
 
 pub new-requires : goal.new-requires
@@ -43,9 +44,10 @@ returns c =
     record {
       found =
           c.in_ok-found.ensures.found
-          ∙ ap (λ (fs : List File). found_by_files rules [] (files_view fs)) (ap files_of c.deref-2.ensures.value ∙ c.in_ok-tiles.ensures.files)
-          ∙ sym (append-nil (found_by_files rules [] files))
-          ∙ all_found o files [] referred functions (ids_of c.in_ok-endless.endless) others
-          (compare_with c.no_comparison.result) c.in_ok-terms.ensures c.in_ok-known.ensures.functions (c.in_ok-endless.ensures ∙ c.in_ok-known.ensures.ids) c.in_ok-known.ensures.reference (ap compare_with c.no_comparison.ensures);
+          ∙ ap (λ (fs : List File). found_by_files rules None [] (files_view fs)) (ap files_of c.deref-2.ensures.value ∙ c.in_ok-tiles.ensures.files)
+          ∙ sym (append-nil (found_by_files rules None [] files))
+          ∙ all_found o files None [] referred functions (ids_of c.in_ok-endless.endless) others
+          (compare_with c.no_comparison.result) c.in_ok-terms.ensures c.in_ok-known.ensures.functions (c.in_ok-endless.ensures ∙ c.in_ok-known.ensures.ids) c.in_ok-known.ensures.reference (ap compare_with c.no_comparison.ensures)
+          ∙ files_found (catalog_rules o files) files [];
       named = c.in_ok-found.ensures.files ∙ ap files_of c.deref-2.ensures.value ∙ c.in_ok-tiles.ensures.files;
     }

@@ -1,4 +1,4 @@
-use Rattle.std.proofs.Common.{◌≡◌, ◌∙◌, ℕ, List, length, ap, arith, map, subst, sym}
+use Rattle.std.proofs.Common.{◌≡◌, ◌∙◌, ℕ, List, Some, length, ap, arith, map, subst, sym}
 use Rattle.std.proofs.lemmas.List.{length-map, with_items_is}
 use Rattle.std.specs.Prelude.{All, IfOk}
 use Rattle.lint_files.specs.RulesView.{rules_view}
@@ -34,11 +34,11 @@ returns c =
     let ignored = ignored_by output in
     let references = c.args.references.now.files.now in
     let files = c.args.files.now.files.now in
-    let found = found_by rules (files_view references) (files_view files) in
+    let found = found_by rules (Some c.args.looked) (files_view references) (files_view files) in
     let found_there : findings_view c.in_ok-found.found.items ≡ found =
     c.in_ok-found.ensures
-    ∙ ap (λ (fs : List File). found_by rules (files_view fs) (files_view (files_of c.deref-2.result.now))) (ap files_of c.deref.ensures.value ∙ c.in_ok-references.ensures.files)
-    ∙ ap (λ (fs : List File). found_by rules (files_view references) (files_view fs)) (ap files_of c.deref-2.ensures.value ∙ c.in_ok-files.ensures.files) in
+    ∙ ap (λ (fs : List File). found_by rules (Some c.args.looked) (files_view fs) (files_view (files_of c.deref-2.result.now))) (ap files_of c.deref.ensures.value ∙ c.in_ok-references.ensures.files)
+    ∙ ap (λ (fs : List File). found_by rules (Some c.args.looked) (files_view references) (files_view fs)) (ap files_of c.deref-2.ensures.value ∙ c.in_ok-files.ensures.files) in
     let whole = c.in_ok-found.found in
     let number_left : length c.keep_reported.new.found ≡ whole.len =
     omega (arith, c.keep_reported.auto.found, c.deref_mut.ensures.len, whole.ok.0) in

@@ -1,4 +1,4 @@
-use Rattle.std.proofs.Common.{◌∙◌, List, ap, subst, sym}
+use Rattle.std.proofs.Common.{◌∙◌, List, Some, ap, subst, sym}
 use Rattle.std.specs.Prelude.{IfOk}
 use Rattle.fluent_ids.specs.IdsView.{ids_view}
 use Rattle.lint_endless.specs.Catalog.{AreDeclaredIn}
@@ -6,8 +6,9 @@ use Rattle.lint_endless.specs.EndlessView.{ids_of}
 use Rattle.lint_entries.proofs.CommonIn.{in_language as common_in_language}
 use Rattle.lint_entries.specs.Terms.{is_referred}
 use Rattle.lint_files.specs.RulesView.{compare_with}
-use Rattle.lint_findings.specs.Findings.{FileFinding}
+use Rattle.lint_findings.specs.Findings.{FileFinding, Rules}
 use Rattle.fluent_lint.specs.FileTiles.{files_view}
+use Rattle.fluent_lint.specs.Found.{found_by, looked_with}
 use Rattle.fluent_lint.specs.KnownIds.{compare_by}
 use Rattle.fluent_lint.specs.Reports.{IsReportWith, options_view}
 use Rattle.fluent_lint.proofs.Found.{all_found, known_declared}
@@ -32,8 +33,18 @@ returns c =
     let files = c.args.files.now.files.now in
     let reference = ids_view (Unit {0}) known.reference in
     let same = c.in_ok-endless.ensures in
+    let o = options_view c.args.options.now in
+    let rules : Rules = record {
+      functions = ids_view (Unit {0}) known.functions;
+      ids = ids_of c.in_ok-endless.endless;
+      reference = reference;
+      plurals = o.plurals;
+      is_referred = is_referred c.in_ok-terms.terms;
+      compare = compare_with c.comparison.result;
+    } in
     subst (λ (found : List FileFinding). IfOk c.report_by_rules.result (IsReportWith found references files c.args.output))
-    (all_found (options_view c.args.options.now) (files_view files) references (is_referred c.in_ok-terms.terms) (ids_view (Unit {0}) known.functions) (ids_of c.in_ok-endless.endless) reference
+    (ap (λ looked. found_by rules (Some looked) (files_view references) (files_view files)) c.in_catalog-looked.ensures
+    ∙ all_found o (files_view files) (Some (looked_with o (files_view references))) references (is_referred c.in_ok-terms.terms) (ids_view (Unit {0}) known.functions) (ids_of c.in_ok-endless.endless) reference
     (compare_with c.comparison.result) c.in_ok-terms.ensures c.in_ok-known.ensures.functions (same ∙ c.in_ok-known.ensures.ids) c.in_ok-known.ensures.reference
-    (c.comparison.ensures ∙ ap (λ ids. compare_by ids reference references) (sym same)))
+    (c.comparison.ensures ∙ ap (λ ids. compare_by ids reference o.plurals references) (sym same)))
     c.report_by_rules.ensures

@@ -1,36 +1,33 @@
-use Rattle.std.proofs.Common.{◌∙◌, rules}
 use Rattle.std.proofs.lemmas.Result.{IfOk-weaker}
 use Rattle.clap.specs.Words.{app_of, kind_of}
 use Rattle.clap.specs.declared.error.kind.ErrorKind.TheVariants.{DisplayHelp, DisplayVersion}
 use Rattle.ftl_arguments.specs.Meaning.{texts}
-use Rattle.ftl_arguments.proofs.Parsed.{no_faults, asked, among, bad_always, bad_not_alone, none_asked, text_asked, refused_unasked}
+use Rattle.ftl_arguments.proofs.Parsed.{no_faults, asked, met_asked, among, bad_always, bad_not_alone, none_asked, text_asked, refused_unasked}
 use Rattle.ftl_arguments.proofs.reading.command.Goals as goal
 
-pub returns-in_ok-command-in-Ok-clause-asked : goal.returns-in_ok-command-in-Ok-clause-asked
-returns-in_ok-command-in-Ok-clause-asked c =
+pub returns-in-Ok-clause-asked : goal.returns-in-Ok-clause-asked
+returns-in-Ok-clause-asked c =
     let words = texts c.args.words.now in
     let app = app_of c.in_ok-program.field-0 in
     let none = no_faults app c.in_ok-program.ensures words c.in-Ok.ensures.kinds in
-    asked app c.in_ok-program.ensures words c.args.colours c.in-Ok.matches c.in-Ok.ensures.matches none ∙ c.in_ok-command-in-Ok.ensures.command
+    IfOk-weaker c.met.result _ _ (met_asked app c.in_ok-program.ensures words c.args.colours c.in-Ok.matches c.in-Ok.ensures.matches none) c.met.ensures.met
 
-pub returns-in_err-command-in-Ok-clause-nothing : goal.returns-in_err-command-in-Ok-clause-nothing
-returns-in_err-command-in-Ok-clause-nothing c =
+pub returns-in-Ok-clause-nothing : goal.returns-in-Ok-clause-nothing
+returns-in-Ok-clause-nothing c =
     let words = texts c.args.words.now in
     let app = app_of c.in_ok-program.field-0 in
     let none = no_faults app c.in_ok-program.ensures words c.in-Ok.ensures.kinds in
-    rw (asked app c.in_ok-program.ensures words c.args.colours c.in-Ok.matches c.in-Ok.ensures.matches none) (search rules)
+    rw (asked app c.in_ok-program.ensures words c.args.colours c.in-Ok.matches c.in-Ok.ensures.matches none) c.met.ensures.nothing
 
-pub returns-in_err-command-in-Ok-clause-not_help : goal.returns-in_err-command-in-Ok-clause-not_help
-returns-in_err-command-in-Ok-clause-not_help c =
+pub returns-in-Ok-clause-not_help : goal.returns-in-Ok-clause-not_help
+returns-in-Ok-clause-not_help c =
     let words = texts c.args.words.now in
-    bad_always c.from_residual-in_err-command-in-Ok.result
-    (none_asked words DisplayHelp (no_faults (app_of c.in_ok-program.field-0) c.in_ok-program.ensures words c.in-Ok.ensures.kinds))
+    bad_always c.met.result (none_asked words DisplayHelp (no_faults (app_of c.in_ok-program.field-0) c.in_ok-program.ensures words c.in-Ok.ensures.kinds))
 
-pub returns-in_err-command-in-Ok-clause-not_version : goal.returns-in_err-command-in-Ok-clause-not_version
-returns-in_err-command-in-Ok-clause-not_version c =
+pub returns-in-Ok-clause-not_version : goal.returns-in-Ok-clause-not_version
+returns-in-Ok-clause-not_version c =
     let words = texts c.args.words.now in
-    bad_always c.from_residual-in_err-command-in-Ok.result
-    (none_asked words DisplayVersion (no_faults (app_of c.in_ok-program.field-0) c.in_ok-program.ensures words c.in-Ok.ensures.kinds))
+    bad_always c.met.result (none_asked words DisplayVersion (no_faults (app_of c.in_ok-program.field-0) c.in_ok-program.ensures words c.in-Ok.ensures.kinds))
 
 pub returns-in-Err-clause-asked : goal.returns-in-Err-clause-asked
 returns-in-Err-clause-asked c =

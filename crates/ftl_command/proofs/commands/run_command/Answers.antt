@@ -1,7 +1,7 @@
 use Rattle.std.proofs.Common.{inl, inr, refl, ◌∙◌}
 use Rattle.ftl_arguments.specs.Meaning.{command_of, texts}
 use Rattle.fluent_serve.proofs.Outcomes.{on_ok_always}
-use Rattle.ftl_command.proofs.EndLemmas.{asked_command, asked_help, asked_version, command_helps, is_bad, no_help_asked, text_helps}
+use Rattle.ftl_command.proofs.EndLemmas.{asked_command, asked_explanation, asked_help, asked_version, command_helps, is_bad, no_explanation_asked, no_help_asked, text_helps}
 use Rattle.ftl_command.proofs.InPlaceLemmas.{none_tidied}
 use Rattle.ftl_command.proofs.Refusals.{asked_devices, early_devices, of_bad_words, of_words}
 use Rattle.ftl_command.proofs.RunLemmas.{kept_input, nothing_done, other_by, shows_line}
@@ -80,8 +80,42 @@ returns-in-Ok-Version-clause-help g c =
     let wrote = c.write_asked-in-Ok-Version in
     let asked = asked_version c.args.colours words c.in-Ok-Version.field-0-is c.in-Ok-Version.ensures.asked in
     let line = c.as_str-in-Ok-Version.ensures.value ∙ asked.1.1 in
-    text_helps g.O.Sink c.args.writer.now wrote.new.writer c.args.colours words wrote.result (inr asked.1.0)
+    text_helps g.O.Sink c.args.writer.now wrote.new.writer c.args.colours words wrote.result (inr (inl asked.1.0))
     (λ alone. shows_line _ _ wrote.result _ line wrote.ensures.written wrote.ensures.front) wrote.ensures.fault
+
+pub returns-in-Ok-Explanation-clause-ended : goal.returns-in-Ok-Explanation-clause-ended
+returns-in-Ok-Explanation-clause-ended g c =
+    let wrote = c.write_asked-in-Ok-Explanation in
+    let asked = asked_explanation c.args.colours (texts c.args.words.now) c.in-Ok-Explanation.field-0-is c.in-Ok-Explanation.ensures.asked in
+    rw asked.0 (record {
+      done = wrote.ensures.ended;
+      tidied = on_ok_always wrote.result tt;
+      memory = λ memory. absurd (other_by wrote.result Memory memory (λ same. absurd cc) wrote.ensures.fault);
+      input = λ input. other_by wrote.result Input input (λ same. absurd cc) wrote.ensures.fault;
+      output = λ output. tt;
+    })
+
+pub returns-in-Ok-Explanation-clause-devices : goal.returns-in-Ok-Explanation-clause-devices
+returns-in-Ok-Explanation-clause-devices g c =
+    let wrote = c.write_asked-in-Ok-Explanation in
+    asked_devices g.F.Folder g.I.Source g.O.Sink c.args.reader.now c.args.writer.now (command_of c.args.colours (texts c.args.words.now)) c.args.folder.now
+    wrote.new.writer wrote.result wrote.ensures.writes wrote.ensures.fault wrote.ensures.failed
+
+pub returns-in-Ok-Explanation-clause-no_input : goal.returns-in-Ok-Explanation-clause-no_input
+returns-in-Ok-Explanation-clause-no_input g c = kept_input (command_of c.args.colours (texts c.args.words.now)) _
+
+pub returns-in-Ok-Explanation-clause-help : goal.returns-in-Ok-Explanation-clause-help
+returns-in-Ok-Explanation-clause-help g c =
+    let words = texts c.args.words.now in
+    let wrote = c.write_asked-in-Ok-Explanation in
+    let asked = asked_explanation c.args.colours words c.in-Ok-Explanation.field-0-is c.in-Ok-Explanation.ensures.asked in
+    text_helps g.O.Sink c.args.writer.now wrote.new.writer c.args.colours words wrote.result (inr (inr asked.1))
+    (λ alone. absurd (no_explanation_asked words alone asked.1)) wrote.ensures.fault
+
+pub returns-in-Ok-Explanation-clause-files : goal.returns-in-Ok-Explanation-clause-files
+returns-in-Ok-Explanation-clause-files g c =
+    let asked = asked_explanation c.args.colours (texts c.args.words.now) c.in-Ok-Explanation.field-0-is c.in-Ok-Explanation.ensures.asked in
+    rw asked.0 refl
 
 pub returns-in-Err-Bad-clause-help : goal.returns-in-Err-Bad-clause-help
 returns-in-Err-Bad-clause-help g c = record {

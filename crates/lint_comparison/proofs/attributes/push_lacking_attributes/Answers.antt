@@ -3,7 +3,7 @@ use Rattle.std.proofs.lemmas.Result.{on_ok_weaker}
 use Rattle.fluent_ast.specs.Borrowed.{attributes_of}
 use Rattle.lint_comparison.specs.Lacks.{lack_of}
 use Rattle.lint_comparison.specs.LackingAttributes.{known_names, names_of}
-use Rattle.lint_comparison.proofs.Lacking.{without_each}
+use Rattle.lint_comparison.proofs.LackedNames.{without_each}
 use Rattle.lint_finding.specs.DifferenceView.{difference_view}
 use Rattle.lint_comparison.proofs.attributes.push_lacking_attributes.Goals as goal
 

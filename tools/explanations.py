@@ -1,0 +1,107 @@
+#!/usr/bin/env python3
+"""Writes what `ftl lint --explain CODE` shows: the sections of docs/reference/codes.md as text for a screen.
+
+    tools/explanations.py [--check]
+
+The result is crates/ftl_arguments/src/explanations.rt, in the order of the codes in linting.rt. With --check nothing is
+written, the last line is 'N passed, M failed', and the status is 1 if the file is another one.
+"""
+import pathlib
+import re
+import sys
+import textwrap
+
+TOP = pathlib.Path(__file__).resolve().parent.parent
+PAGE = TOP / "docs" / "reference" / "codes.md"
+CODES = TOP / "crates" / "ftl_arguments" / "src" / "linting.rt"
+RESULT = TOP / "crates" / "ftl_arguments" / "src" / "explanations.rt"
+WIDTH = 80
+# No comment leaves these out.
+UNSILENCED = {"syntax", "byte-order-mark"}
+# How many are in one table, since the checker reads a table in one piece.
+PART = 6
+HEAD = '''//! What each code of findings means: the sections of `docs/reference/codes.md`, as text for a
+//! screen. `tools/explanations.py` writes this file.
+ghost use Rattle.std.specs.Prelude.{◌≡◌, length};
+
+/// A code with its explanation.
+pub(crate) type Explanation = (&'static str, &'static str);
+'''
+TABLE = '''
+pub(crate) fn part_%(number)d() -> &'static [Explanation]
+    ensures { length result.now ≡ %(length)d }
+{
+    &PART_%(number)d
+}
+
+static PART_%(number)d: [Explanation; %(length)d] = [
+%(rows)s];
+'''
+
+
+def codes() -> list[str]:
+    """The codes, in their order."""
+    stretch = re.search(r"const CODES: \[&str; \d+\] = \[(.*?)\]", CODES.read_text(), re.S)
+    return re.findall(r'"([a-z0-9-]+)"', stretch[1])
+
+
+def paragraph(text: str) -> str:
+    """A paragraph without the targets of its links, in lines for a screen. No line ends within code."""
+    plain = re.sub(r"\[([^\]]*)\]\([^)]*\)", r"\1", text, flags=re.S)
+    held = re.sub(r"`[^`]*`", lambda code: code[0].replace(" ", "\0"), " ".join(plain.split()))
+    return textwrap.fill(held, WIDTH, break_long_words=False, break_on_hyphens=False).replace("\0", " ")
+
+
+def silence(code: str) -> str:
+    """How findings of a code are left out."""
+    if code in UNSILENCED:
+        return f"`--ignore {code}` leaves such findings out."
+    return f"`--ignore {code}` leaves such findings out, and so does a comment `# lint-ignore: {code}` before the entry."
+
+
+def explanation(code: str, section: str) -> str:
+    """A section of the page, which begins after its heading, with how to leave such findings out."""
+    parts = [part.strip("\n") for part in re.split(r"\n\n+", section.strip("\n"))]
+    shown = [part if part.startswith("    ") else paragraph(part) for part in parts]
+    return "\n\n".join([code, *shown, paragraph(silence(code))]) + "\n"
+
+
+def literal(text: str) -> str:
+    """A text as a string literal, a line each."""
+    escaped = text.replace("\\", "\\\\").replace('"', '\\"')
+    return f'"{escaped}"'
+
+
+def row(code: str, section: str) -> str:
+    """A code with its explanation, as a row of a table."""
+    return f"    (\n        {literal(code)},\n        {literal(explanation(code, section))},\n    ),\n"
+
+
+def table(number: int, part: list[str]) -> str:
+    """A table of these rows."""
+    return TABLE % {"number": number, "length": len(part), "rows": "".join(part)}
+
+
+def written() -> str:
+    """The file."""
+    page = PAGE.read_text(encoding="utf-8")
+    sections = dict(re.findall(r"^### `([a-z0-9-]+)`\n(.*?)(?=^##)", page + "\n## ", re.S | re.M))
+    rows = [row(code, sections[code]) for code in codes()]
+    parts = [rows[start : start + PART] for start in range(0, len(rows), PART)]
+    return HEAD + "".join(table(number, part) for number, part in enumerate(parts, 1))
+
+
+def main(words: list[str]) -> int:
+    if words == ["--check"]:
+        same = RESULT.read_text(encoding="utf-8") == written()
+        print(f"{int(same)} passed, {int(not same)} failed")
+        return 0 if same else 1
+    if words:
+        print(__doc__, file=sys.stderr)
+        return 2
+    RESULT.write_text(written(), encoding="utf-8")
+    return 0
+
+
+if __name__ == "__main__":
+    sys.exit(main(sys.argv[1:]))
