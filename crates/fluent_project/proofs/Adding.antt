@@ -1,5 +1,5 @@
 -- What is left to add, while a list of files is gone through.
-use Rattle.std.proofs.Common.{◌≡◌, ℕ, ◌+◌, ◌<◌, ◌≤◌, List, [], ◌++◌, Bor, length, drop, get_or, ap, sym, subst, drop-cons, add-one}
+use Rattle.std.proofs.Common.{◌≡◌, ℕ, Bool, ◌+◌, ◌<◌, ◌≤◌, List, [], ◌++◌, Bor, length, drop, get_or, ap, sym, subst, drop-cons, add-one}
 use Rattle.std.specs.Prelude.{String}
 use Rattle.std.specs.Global.{Global}
 use Rattle.std.specs.BTreeMap.{BTreeMap}
@@ -7,7 +7,7 @@ use Rattle.std.proofs.lemmas.List.{drop_all}
 use Rattle.fluent_project.specs.declared.part.Part.{Part}
 use Rattle.fluent_project.specs.declared.pairs.Source.{Source as CodeSource}
 use Rattle.fluent_project.specs.PairViews.{AddsAll}
-use Rattle.fluent_project.specs.Pairs.{Rule, Said, Tree, alone_by, alone_of, translation_by, translations_by}
+use Rattle.fluent_project.specs.Pairs.{Rule, Said, alone_by, alone_of, translation_by, translations_by}
 use Rattle.fluent_project.specs.Patterns.{Text}
 use Rattle.fluent_project.specs.Views.{plain}
 use Rattle.fluent_project.proofs.SaidOf.{adds_both, adds_none}
@@ -15,19 +15,19 @@ use Rattle.fluent_project.proofs.SaidOf.{adds_both, adds_none}
 abbrev Map : Type 0
 Map = BTreeMap (String Global) CodeSource
 
-module _ (tree : Tree) (locale : Text) where
+module _ (may : Text → Bool) where
   -- with what is left, all is added
   abbrev pub Leads : List Said → List Said → Map → Map → Type 0
-  Leads rest all old middle = (new : Map) → AddsAll tree locale rest middle new → AddsAll tree locale all old new
+  Leads rest all old middle = (new : Map) → AddsAll may rest middle new → AddsAll may all old new
 
   pub leads_on : (some rest rest' all : List Said) (old middle middle' : Map) → rest ≡ some ++ rest' → Leads rest all old middle
-      → AddsAll tree locale some middle middle' → Leads rest' all old middle'
+      → AddsAll may some middle middle' → Leads rest' all old middle'
   leads_on some rest rest' all old middle middle' is leads adds new adds' =
-      leads new (subst (λ said. AddsAll tree locale said middle new) (sym is) (adds_both tree locale some rest' middle middle' new adds adds'))
+      leads new (subst (λ said. AddsAll may said middle new) (sym is) (adds_both may some rest' middle middle' new adds adds'))
 
-  pub leads_to : (rest all : List Said) (old middle : Map) → rest ≡ [] → Leads rest all old middle → AddsAll tree locale all old middle
+  pub leads_to : (rest all : List Said) (old middle : Map) → rest ≡ [] → Leads rest all old middle → AddsAll may all old middle
   leads_to rest all old middle none leads =
-      leads middle (subst (λ said. AddsAll tree locale said middle middle) (sym none) (adds_none tree locale middle))
+      leads middle (subst (λ said. AddsAll may said middle middle) (sym none) (adds_none may middle))
 
 -- the next file of a language alone, and the end of its files
 module _ (locale : Text) (rule : Rule) (files : List (Bor Text)) (i : ℕ) where

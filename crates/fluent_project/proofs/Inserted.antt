@@ -14,7 +14,7 @@ use Rattle.std.specs.BTreeMap.{BTreeMap, get_by_text, insert_entry}
 use Rattle.std.specs.Map.{lookup}
 use Rattle.fluent_project.specs.declared.pairs.Source.{Source as CodeSource}
 use Rattle.fluent_project.specs.PairViews.{AddsSaid, said_in, source_view}
-use Rattle.fluent_project.specs.Pairs.{Source, Tree, may_be, said_or}
+use Rattle.fluent_project.specs.Pairs.{Source, said_or}
 use Rattle.fluent_project.specs.Patterns.{Text}
 
 abbrev Key : Type 0
@@ -101,26 +101,26 @@ kept_said None s true false there = refl
 kept_said None s false true there = refl
 kept_said None s false false there = refl
 
-module _ (tree : Tree) (locale : Text) (k : Key) (s : CodeSource) (old new : BTreeMap Key CodeSource) where
+module _ (is_kept : Text → Bool) (k : Key) (s : CodeSource) (old new : BTreeMap Key CodeSource) where
   -- a file is put in where nothing was said
-  pub adds_new : may_be tree locale (string_bytes k) ≡ true → get_by_text old (string_bytes k) ≡ None
-      → new.entries ≡ insert_entry string_cmp old.entries k s → AddsSaid tree locale (string_bytes k) (source_view s) old new
+  pub adds_new : is_kept (string_bytes k) ≡ true → get_by_text old (string_bytes k) ≡ None
+      → new.entries ≡ insert_entry string_cmp old.entries k s → AddsSaid is_kept (string_bytes k) (source_view s) old new
   adds_new may none is path utf8 =
       let here = bytes_eq (string_bytes k) path in
       ap (λ es. option_map source_view (lookup (at path) es)) is
       ∙ ap (option_map source_view) (put_found path k s old.entries)
       ∙ ap (λ b. option_map source_view (cond b (Some s) (get_by_text old path))) (at_test path k)
       ∙ viewed here s (get_by_text old path)
-      ∙ new_said (said_in old path) (source_view s) here (may_be tree locale path)
+      ∙ new_said (said_in old path) (source_view s) here (is_kept path)
       (λ h. ap (said_in old) (sym (same_text (string_bytes k) path (sym h))) ∙ ap (option_map source_view) none)
-      (λ h. ap (may_be tree locale) (sym (same_text (string_bytes k) path (sym h))) ∙ may)
+      (λ h. ap is_kept (sym (same_text (string_bytes k) path (sym h))) ∙ may)
 
   -- nothing is put in where the file may not be, or something was said
-  pub adds_old : (may_be tree locale (string_bytes k) ≡ true → is_some (said_in old (string_bytes k)) ≡ true)
-      → new ≡ old → AddsSaid tree locale (string_bytes k) (source_view s) old new
+  pub adds_old : (is_kept (string_bytes k) ≡ true → is_some (said_in old (string_bytes k)) ≡ true)
+      → new ≡ old → AddsSaid is_kept (string_bytes k) (source_view s) old new
   adds_old there same path utf8 =
       let here = bytes_eq (string_bytes k) path in
       ap (λ m. said_in m path) same
-      ∙ kept_said (said_in old path) (source_view s) here (may_be tree locale path)
+      ∙ kept_said (said_in old path) (source_view s) here (is_kept path)
       (λ h may. let eq : string_bytes k ≡ path = same_text (string_bytes k) path (sym h) in
-      ap (λ p. is_some (said_in old p)) (sym eq) ∙ there (ap (may_be tree locale) eq ∙ may))
+      ap (λ p. is_some (said_in old p)) (sym eq) ∙ there (ap is_kept eq ∙ may))

@@ -11,4 +11,5 @@ pub mod Below
 pub mod Tags
 pub mod Adding
 pub mod AddsMore
+pub mod Removed
 pub mod Collected

@@ -7,7 +7,7 @@ use Rattle.std.specs.Global.{Global}
 use Rattle.std.specs.BTreeMap.{BTreeMap}
 use Rattle.fluent_project.specs.declared.pairs.Source.{Source as CodeSource}
 use Rattle.fluent_project.specs.PairViews.{AddsAll, said_in}
-use Rattle.fluent_project.specs.Pairs.{Said, Source, Tree, first_said, may_be, said_or}
+use Rattle.fluent_project.specs.Pairs.{Said, Source, first_said, said_or}
 use Rattle.fluent_project.specs.Patterns.{Text}
 
 -- the first that either says
@@ -28,8 +28,8 @@ said_thrice None None more true = refl
 said_thrice None some more false = refl
 
 -- nothing is added
-pub adds_none : (tree : Tree) (locale : Text) (m : BTreeMap (String Global) CodeSource) → AddsAll tree locale [] m m
-adds_none tree locale m path utf8 = by (said_in m path) (may_be tree locale path)
+pub adds_none : (may : Text → Bool) (m : BTreeMap (String Global) CodeSource) → AddsAll may [] m m
+adds_none may m path utf8 = by (said_in m path) (may path)
   where
     by : (s : Option Source) (may : Bool) → s ≡ said_or s (if may then None else None)
     by (Some s) may = refl
@@ -37,11 +37,11 @@ adds_none tree locale m path utf8 = by (said_in m path) (may_be tree locale path
     by None false = refl
 
 -- some are added, and then more
-pub adds_both : (tree : Tree) (locale : Text) (some more : List Said) (old middle new : BTreeMap (String Global) CodeSource)
-    → AddsAll tree locale some old middle → AddsAll tree locale more middle new → AddsAll tree locale (some ++ more) old new
-adds_both tree locale some more old middle new adds adds' path utf8 =
-    let may = may_be tree locale path in
+pub adds_both : (may : Text → Bool) (some more : List Said) (old middle new : BTreeMap (String Global) CodeSource)
+    → AddsAll may some old middle → AddsAll may more middle new → AddsAll may (some ++ more) old new
+adds_both may some more old middle new adds adds' path utf8 =
+    let is = may path in
     adds' path utf8
-    ∙ ap (λ s. said_or s (if may then first_said path more else None)) (adds path utf8)
-    ∙ said_thrice (said_in old path) (first_said path some) (first_said path more) may
-    ∙ ap (λ s. said_or (said_in old path) (if may then s else None)) (sym (first_of_both path some more))
+    ∙ ap (λ s. said_or s (if is then first_said path more else None)) (adds path utf8)
+    ∙ said_thrice (said_in old path) (first_said path some) (first_said path more) is
+    ∙ ap (λ s. said_or (said_in old path) (if is then s else None)) (sym (first_of_both path some more))

@@ -1,5 +1,5 @@
 -- What the code's rules and pairs stand for.
-use Rattle.std.specs.Prelude.{◌≡◌, ℕ, true, if◌then◌else◌, List, [], ◌∷◌, ◌++◌, Option, None, Some, String, map, option_map, string_bytes}
+use Rattle.std.specs.Prelude.{◌≡◌, ℕ, Bool, true, if◌then◌else◌, List, [], ◌∷◌, ◌++◌, Option, None, Some, String, map, option_map, string_bytes}
 use Rattle.std.specs.Global.{Global}
 use Rattle.std.specs.BTreeMap.{BTreeMap, get_by_text}
 use Rattle.std.specs.Str.{IsUtf8}
@@ -9,7 +9,7 @@ use Rattle.fluent_project.specs.declared.pairs.Source.{Source as CodeSource}
 use Rattle.fluent_project.specs.declared.pairs.Source.TheVariants as is
 use Rattle.fluent_project.specs.declared.pairs.Patterns.{Patterns}
 use Rattle.fluent_project.specs.declared.pairs.Tree as code_tree
-use Rattle.fluent_project.specs.Pairs.{Rule, Said, Source, Tree, all_alone, all_translations, alone_by, alone_of, file, first_said, lacking, may_be, references_of, said_or, source_of, translation_by, translations_by, translations_of, unasked}
+use Rattle.fluent_project.specs.Pairs.{Rule, Said, Source, Tree, all_alone, all_translations, alone_by, alone_of, file, first_said, is_among, is_kept, lacking, references_of, said_or, source_of, translation_by, translations_by, translations_of, unasked}
 use Rattle.fluent_project.specs.Patterns.{Text, filled}
 use Rattle.fluent_project.specs.Taking.{taken, takes}
 use Rattle.fluent_project.specs.Views.{plain}
@@ -47,29 +47,33 @@ said_in map path = option_map source_view (get_by_text map path)
 abbrev pub AreSources : Tree → Text → BTreeMap (String Global) CodeSource → Type 0
 AreSources tree locale map = (path : Text) → IsUtf8 path → said_in map path ≡ source_of tree locale path
 
--- These are added, where nothing was said before.
-abbrev pub AddsAll : Tree → Text → List Said → BTreeMap (String Global) CodeSource → BTreeMap (String Global) CodeSource → Type 0
-AddsAll tree locale more old new =
-    (path : Text) → IsUtf8 path → said_in new path ≡ said_or (said_in old path) (if may_be tree locale path then first_said path more else None)
+-- These are added, if they are kept, where nothing was said before.
+abbrev pub AddsAll : (Text → Bool) → List Said → BTreeMap (String Global) CodeSource → BTreeMap (String Global) CodeSource → Type 0
+AddsAll is_kept more old new =
+    (path : Text) → IsUtf8 path → said_in new path ≡ said_or (said_in old path) (if is_kept path then first_said path more else None)
 
-abbrev pub AddsSaid : Tree → Text → Text → Source → BTreeMap (String Global) CodeSource → BTreeMap (String Global) CodeSource → Type 0
-AddsSaid tree locale path source old new = AddsAll tree locale ((path, source) ∷ []) old new
+abbrev pub AddsSaid : (Text → Bool) → Text → Source → BTreeMap (String Global) CodeSource → BTreeMap (String Global) CodeSource → Type 0
+AddsSaid is_kept path source old new = AddsAll is_kept ((path, source) ∷ []) old new
+
+-- these are taken out
+abbrev pub Removes : List (Bor Text) → BTreeMap (String Global) CodeSource → BTreeMap (String Global) CodeSource → Type 0
+Removes paths old new = (path : Text) → said_in new path ≡ (if is_among (plain paths) path then None else said_in old path)
 
 -- by rules, by one rule, and by one rule of these files, of which the first has this number
 abbrev pub AddsTranslations : code_tree.Tree → Text → List code.Rule → BTreeMap (String Global) CodeSource → BTreeMap (String Global) CodeSource → Type 0
-AddsTranslations tree locale rules old new = AddsAll (tree_view tree) locale (all_translations (tree_view tree) locale (rules_view rules)) old new
+AddsTranslations tree locale rules old new = AddsAll (is_kept (tree_view tree) locale) (all_translations (tree_view tree) locale (rules_view rules)) old new
 
 abbrev pub AddsByRule : code_tree.Tree → Text → code.Rule → BTreeMap (String Global) CodeSource → BTreeMap (String Global) CodeSource → Type 0
 AddsByRule tree locale rule old new =
-    AddsAll (tree_view tree) locale (translations_of locale (tree_view tree).references (rule_view rule)) old new
+    AddsAll (is_kept (tree_view tree) locale) (translations_of locale (tree_view tree).references (rule_view rule)) old new
 
 abbrev pub AddsFrom : code_tree.Tree → Patterns → ℕ → List (Bor Text) → BTreeMap (String Global) CodeSource → BTreeMap (String Global) CodeSource → Type 0
 AddsFrom tree p number files old new =
-    AddsAll (tree_view tree) p.locale.now (translations_by p.locale.now p.reference.now p.l10n.now number (plain files)) old new
+    AddsAll (is_kept (tree_view tree) p.locale.now) (translations_by p.locale.now p.reference.now p.l10n.now number (plain files)) old new
 
 abbrev pub AddsTranslation : code_tree.Tree → Patterns → ℕ → Text → BTreeMap (String Global) CodeSource → BTreeMap (String Global) CodeSource → Type 0
 AddsTranslation tree p number path old new =
-    AddsAll (tree_view tree) p.locale.now (translation_by p.locale.now p.reference.now p.l10n.now number path) old new
+    AddsAll (is_kept (tree_view tree) p.locale.now) (translation_by p.locale.now p.reference.now p.l10n.now number path) old new
 
 -- the translation of a file by these patterns: its path, if that is UTF-8, or nothing of a file that isn't of the reference
 abbrev pub IsTranslation : Patterns → Text → Option (String Global) → Type 0
@@ -80,16 +84,16 @@ IsTranslation p path (Some translation) = (takes [] p.reference.now path ≡ tru
 
 -- the files that there are besides, by rules, and by one rule of these files
 abbrev pub AddsAlone : code_tree.Tree → Text → List code.Rule → BTreeMap (String Global) CodeSource → BTreeMap (String Global) CodeSource → Type 0
-AddsAlone tree locale rules old new = AddsAll (tree_view tree) locale (all_alone (tree_view tree) locale (rules_view rules)) old new
+AddsAlone tree locale rules old new = AddsAll (is_kept (tree_view tree) locale) (all_alone (tree_view tree) locale (rules_view rules)) old new
 
 abbrev pub AddsFiles : code_tree.Tree → Text → code.Rule → List (Bor Text) → BTreeMap (String Global) CodeSource → BTreeMap (String Global) CodeSource → Type 0
-AddsFiles tree locale rule files old new = AddsAll (tree_view tree) locale (alone_of locale (plain files) (rule_view rule)) old new
+AddsFiles tree locale rule files old new = AddsAll (is_kept (tree_view tree) locale) (alone_of locale (plain files) (rule_view rule)) old new
 
 abbrev pub AddsFile : code_tree.Tree → Text → code.Rule → Text → BTreeMap (String Global) CodeSource → BTreeMap (String Global) CodeSource → Type 0
-AddsFile tree locale rule path old new = AddsAll (tree_view tree) locale (alone_by locale (rule_view rule) path) old new
+AddsFile tree locale rule path old new = AddsAll (is_kept (tree_view tree) locale) (alone_by locale (rule_view rule) path) old new
 
 abbrev pub AddsOne : code_tree.Tree → Text → String Global → CodeSource → BTreeMap (String Global) CodeSource → BTreeMap (String Global) CodeSource → Type 0
-AddsOne tree locale path source old new = AddsSaid (tree_view tree) locale (string_bytes path) (source_view source) old new
+AddsOne tree locale path source old new = AddsSaid (is_kept (tree_view tree) locale) (string_bytes path) (source_view source) old new
 
 -- the files of the reference, of these files, are appended
 abbrev pub AppendsReferences : List code.Rule → List (Bor Text) → List (Bor Text) → List (Bor Text) → Type 0

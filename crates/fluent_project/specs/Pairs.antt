@@ -103,9 +103,13 @@ module _ (tree : Tree) (locale : Text) where
   abbrev pub said : List Said
   said = all_translations tree.rules ++ all_alone tree.rules
 
-  -- a file of the reference is none of a language, nor is one that is left out
+  -- a file isn't one that is left out
+  abbrev pub is_kept : Text → Bool
+  is_kept path = not (is_translation tree.excluded locale path)
+
+  -- nor is one of the reference one of a language
   abbrev pub may_be : Text → Bool
-  may_be path = not (is_among tree.references path) && not (is_translation tree.excluded locale path)
+  may_be path = not (is_among tree.references path) && is_kept path
 
 -- the first that is said of a path
 abbrev pub first_said : Text → List Said → Option Source

@@ -1,8 +1,8 @@
 //! Which files of a language are translated from which of the reference.
 ghost use Rattle.std.specs.Prelude.{◌≡◌, IfOk, OnOk};
-ghost use Rattle.fluent_project.specs.Pairs.{alone_as, has_reference, has_translation, is_about, is_among, is_reference, is_translation, may_be, references_of};
+ghost use Rattle.fluent_project.specs.Pairs.{alone_as, has_reference, has_translation, is_about, is_among, is_reference, is_kept, is_translation, references_of};
 ghost use Rattle.fluent_project.specs.Folders.{folder};
-ghost use Rattle.fluent_project.specs.PairViews.{AddsAlone, AddsByRule, AddsFile, AddsFiles, AddsFrom, AddsOne, AddsTranslation, AddsTranslations, AppendsReferences, AreSources, IsTranslation, rule_view, rules_view, source_view, tree_view};
+ghost use Rattle.fluent_project.specs.PairViews.{AddsAlone, AddsByRule, AddsFile, AddsFiles, AddsFrom, AddsOne, AddsTranslation, AddsTranslations, AppendsReferences, AreSources, IsTranslation, Removes, rule_view, rules_view, source_view, tree_view};
 ghost use Rattle.fluent_project.specs.Views.{plain};
 
 use crate::folders::folder_of;
@@ -168,6 +168,7 @@ impl Tree<'_, '_> {
         let mut pairs = BTreeMap::new(alloc);
         self.add_translations(alloc, locale, self.rules, &mut pairs)?;
         self.add_alone(alloc, locale, self.rules, &mut pairs)?;
+        remove_all(self.references, &mut pairs);
         Ok(pairs)
     }
 
@@ -307,7 +308,7 @@ impl Tree<'_, '_> {
         self.add(locale, path, rule.source_alone(), pairs)
     }
 
-    /// Adds a file, if it isn't there, is none of the reference, and isn't left out.
+    /// Adds a file, if it isn't there and isn't left out.
     fn add(
         &self,
         locale: &str,
@@ -317,18 +318,27 @@ impl Tree<'_, '_> {
     ) -> Result<(), AllocError>
         ensures { OnOk result (AddsOne self.now locale.now path source pairs.old pairs.new) }
     {
-        if !self.may_be(locale, path.as_str()) || pairs.get(path.as_str()).is_some() {
+        if !self.is_kept(locale, path.as_str()) || pairs.get(path.as_str()).is_some() {
             return Ok(());
         }
         let _ = pairs.insert(path, source)?;
         Ok(())
     }
 
-    /// Whether a path may be one of a translation into a language.
-    fn may_be(&self, locale: &str, path: &str) -> bool
-        ensures { result ≡ may_be (tree_view self.now) locale.now path.now }
+    /// Whether a translation into a language isn't left out.
+    fn is_kept(&self, locale: &str, path: &str) -> bool
+        ensures { result ≡ is_kept (tree_view self.now) locale.now path.now }
     {
-        !is_among(self.references, path) && !is_translation(self.excluded, locale, path)
+        !is_translation(self.excluded, locale, path)
+    }
+}
+
+/// Takes files out.
+fn remove_all(paths: &[&str], pairs: &mut BTreeMap<String, Source>)
+    ensures { Removes paths.now pairs.old pairs.new }
+{
+    for path in paths {
+        let _ = pairs.remove(*path);
     }
 }
 
