@@ -15,9 +15,13 @@ import tempfile
 
 TOP = pathlib.Path(__file__).resolve().parent.parent
 CODES = {
-    "control-character", "missing-variable", "placeable-in-literal", "plural-dropped", "replacement-character",
-    "term-as-text", "unbalanced-direction", "unknown-category", "unknown-term-argument", "unknown-term-variant",
-    "unused-category", "variant-lacks-variable", "zero-width",
+    "access-key-not-in-label", "broken-entity", "broken-tag", "changed-number", "changed-placeholder", "changed-style",
+    "changed-url", "control-character", "double-space", "edge-space", "empty-text", "final-punctuation",
+    "long-access-key", "long-key", "long-text", "missing-element", "missing-l10n-name", "missing-variable",
+    "mixed-scripts", "placeable-in-literal", "plural-dropped", "replacement-character", "straight-quote",
+    "term-as-text", "three-dots", "unbalanced-direction", "unbalanced-element", "unknown-category", "unknown-element",
+    "unknown-l10n-name", "unknown-term-argument", "unknown-term-variant", "unpaired-quote", "unused-category",
+    "variant-lacks-variable", "wrong-encoding", "zero-width",
 }
 
 
@@ -25,10 +29,11 @@ def found(program: str, row: dict) -> list:
     with tempfile.TemporaryDirectory() as folder:
         for name in ("reference", "translation"):
             (pathlib.Path(folder) / f"{name}.ftl").write_bytes(row[name].encode())
-        words = ["lint", "--notes", "--format", "json", "--locale", row["locale"], "--reference", "reference.ftl", "translation.ftl"]
+        words = ["lint", "--select", ",".join(sorted(CODES)), "--format", "json", "--locale", row["locale"]]
+        words += ["--reference", "reference.ftl", "translation.ftl"]
         told = subprocess.run([program, *words], cwd=folder, capture_output=True, timeout=60, check=False)
     objects = [json.loads(line) for line in told.stdout.splitlines()]
-    return [[it["code"], it["line"], it["column"]] for it in objects if it.get("code") in CODES]
+    return [[it["code"], it["line"], it["column"]] for it in objects if "code" in it]
 
 
 def main() -> int:

@@ -25,10 +25,28 @@ HEAD = '''//! What each code of findings means: the sections of `docs/reference/
 ghost use Rattle.std.specs.Prelude.{◌≡◌, length};
 
 /// A code with its explanation.
-pub(crate) type Explanation = (&'static str, &'static str);
+type Explanation = (&'static str, &'static str);
+
+/// The text on a code, which is empty if it is none.
+pub(crate) fn text_of(code: &str) -> &'static str {
+    text_in(part_1(), code)
+%s        .unwrap_or("")
+}
+
+/// That in one of the tables.
+fn text_in(explanations: &'static [Explanation], code: &str) -> Option<&'static str> {
+    for (known, text) in explanations {
+        if *known == code {
+            return Some(*text);
+        }
+    }
+    None
+}
+'''
+LATER = '''        .or_else(|| text_in(part_%d(), code))
 '''
 TABLE = '''
-pub(crate) fn part_%(number)d() -> &'static [Explanation]
+fn part_%(number)d() -> &'static [Explanation]
     ensures { length result.now ≡ %(length)d }
 {
     &PART_%(number)d
@@ -60,8 +78,9 @@ def silence(code: str) -> str:
 
 
 def explanation(code: str, section: str) -> str:
-    """A section of the page, which begins after its heading, with how to leave such findings out."""
-    parts = [part.strip("\n") for part in re.split(r"\n\n+", section.strip("\n"))]
+    """A section of the page, which begins after its heading, with how to leave such findings out. The script of the
+    repository becomes the program."""
+    parts = [part.strip("\n") for part in re.split(r"\n\n+", section.strip("\n").replace("./ftl", "ftl"))]
     shown = [part if part.startswith("    ") else paragraph(part) for part in parts]
     return "\n\n".join([code, *shown, paragraph(silence(code))]) + "\n"
 
@@ -88,7 +107,8 @@ def written() -> str:
     sections = dict(re.findall(r"^### `([a-z0-9-]+)`\n(.*?)(?=^##)", page + "\n## ", re.S | re.M))
     rows = [row(code, sections[code]) for code in codes()]
     parts = [rows[start : start + PART] for start in range(0, len(rows), PART)]
-    return HEAD + "".join(table(number, part) for number, part in enumerate(parts, 1))
+    head = HEAD % "".join(LATER % number for number in range(2, len(parts) + 1))
+    return head + "".join(table(number, part) for number, part in enumerate(parts, 1))
 
 
 def main(words: list[str]) -> int:

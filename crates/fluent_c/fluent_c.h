@@ -194,7 +194,7 @@ struct FluentLintOptions {
     /* The tag of the locale whose plural categories are looked for. If it is empty, none are. */
     const uint8_t *locale FLUENT_ZERO;
     size_t locale_len FLUENT_ZERO;
-    /* Whether notes are reported, too. */
+    /* Whether notes are reported, too, but for those of the group `texts`. */
     bool notes FLUENT_ZERO;
     /* Whether warnings count for the status. */
     bool strict FLUENT_ZERO;

@@ -65,10 +65,10 @@ PRIVATE = re.compile(r'^(example|rows_|all_rows)')
 LONGEST_CLAUSE, LONG_CLAUSE, LONG_CLAUSES = 200, 120, 36
 # Where all codes of findings are listed, and what of each match are codes.
 CODES = {
-    'docs/reference/lint.md': r'^\| (`[a-z`, -]+`) \| (?:error|warning|note) \|',
+    'docs/reference/lint.md': r'^\| (`[a-z0-9`, -]+`) \| (?:error|warning|note) \|',
     'crates/ftl_arguments/specs/Linting.antt': r'^finding_codes =(.*?)\[\]',
     'crates/ftl_arguments/src/linting.rt': r'^pub\(crate\) const CODES: \[&str; \d+\] = \[(.*?)\]',
-    'crates/ftl_arguments/src/program.rt': r'^Codes:\n(.*?)\n\n',
+    'crates/ftl_arguments/src/program.rt': r'^Codes[^\n]*:\n(.*?)\n\n',
 }
 WIDEST = 120
 # How long the README is at most: lines, links, and words a sentence.
@@ -416,7 +416,7 @@ def codes_named():
     for name, pattern in CODES.items():
         for stretch in re.findall(pattern, (ROOT / name).read_text(), re.S | re.M):
             # A definition has the word `codes` before each text.
-            yield name, [word for word in re.findall(r'[a-z]+(?:-[a-z]+)*', stretch) if word != 'codes']
+            yield name, [word for word in re.findall(r'[a-z][a-z0-9]*(?:-[a-z][a-z0-9]*)*', stretch) if word != 'codes']
 
 
 def other_codes():

@@ -101,8 +101,8 @@ def lint(
     1
 
     `reference` has the files that the catalog is translated from: the two are compared. `locale` names the language whose
-    plural categories are looked for, and `functions` are those of the program but `NUMBER` and `DATETIME`. With `notes` notes are reported, too, and
-    with `strict` warnings count for the status.
+    plural categories are looked for, and `functions` are those of the program but `NUMBER` and `DATETIME`. With `notes` notes are reported, too, but
+    for those of the group `texts`, and with `strict` warnings count for the status.
 
     Raises `UnknownLocaleError` if the locale is no tag of a language, `ValueError` if a name or a text can't be written in
     UTF-8, and `MemoryError` if a text nests too deep for 1.5 MB of the machine's stack.

@@ -174,7 +174,7 @@ class RelatedTest(ExpectedCase):
         source = (top / "crates/ftl_arguments/src/linting.rt").read_text("utf-8")
         listed = re.search(r"const CODES: .*?\];", source, re.DOTALL)
         sections = re.findall(r"^### `(.*)`$", (top / "docs/reference/codes.md").read_text("utf-8"), re.MULTILINE)
-        self.assertEqual(sorted(sections), sorted(re.findall(r'"([a-z-]+)"', listed[0])))
+        self.assertEqual(sorted(sections), sorted(re.findall(r'"([a-z0-9-]+)"', listed[0])))
 
 
 class RenamedFilesTest(ExpectedCase):

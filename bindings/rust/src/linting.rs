@@ -93,7 +93,7 @@ pub struct LintOptions<'a> {
     pub locale: Option<&'a str>,
     /// The names of the functions that the program adds, but for `NUMBER` and `DATETIME`.
     pub functions: &'a [&'a str],
-    /// Whether notes are reported, too.
+    /// Whether notes are reported, too, but for those of the group `texts`.
     pub notes: bool,
     /// Whether warnings count for [`Report::has_errors`].
     pub strict: bool,

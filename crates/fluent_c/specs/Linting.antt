@@ -10,6 +10,7 @@ use Rattle.fluent_plurals.specs.declared.plurals.LanguagePlurals.{LanguagePlural
 use Rattle.lint_findings.specs.Files.{File}
 use Rattle.lint_findings.specs.Findings.{Options}
 use Rattle.lint_findings.specs.Output.{json}
+use Rattle.lint_findings.specs.Report.{text_codes}
 use Rattle.fluent_c.specs.Answering.{AreUtf8, HoldsOther, plurals_named, texts_of}
 use Rattle.fluent_c.specs.Made.{Holds}
 use Rattle.fluent_c.specs.Statuses.{IsOneOf}
@@ -54,7 +55,7 @@ options_asked options plurals = record { functions = texts_of options.functions.
 
 -- what is written: each finding as JSON; and which findings fail
 abbrev pub output_asked : FluentLintOptions → Output
-output_asked options = record { format = json; ignored = []; notes = options.notes; counts = false; strict = options.strict }
+output_asked options = record { format = json; ignored = text_codes; notes = options.notes; counts = false; strict = options.strict }
 
 -- the report on these files, by the plural rules of the locale, if it has any
 abbrev pub report_in : FluentLintOptions → List FluentFile → List FluentFile → Option LintReport

@@ -6,7 +6,7 @@ ghost use Rattle.fluent_c.specs.Linting.{AreUtf8Files, HoldsOtherFile, IsUtf8Fil
 ghost use Rattle.fluent_c.specs.declared.answering.Refusal.TheVariants.{NotUtf8, UnknownLocale};
 
 use crate::answering::Refusal;
-use lint_finding::File;
+use lint_findings::File;
 use simdutf8::basic::from_utf8;
 use std::alloc::Global;
 

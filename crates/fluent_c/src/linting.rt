@@ -15,7 +15,7 @@ use crate::{
 use fluent_lint::{Options, Output, Report, report_files};
 use fluent_plurals::LanguagePlurals;
 use fluent_text::stack::StackBudget;
-use lint_report::Format;
+use lint_report::{Format, text_codes};
 use std::alloc::Global;
 
 /// What is looked for in a catalog, and what of it is reported.
@@ -31,7 +31,7 @@ pub struct FluentLintOptions<'o> {
     pub functions: &'o [FluentSource<'o>],
     /// The tag of the locale whose plural categories are looked for, and none if it is empty.
     pub locale: &'o [u8],
-    /// Whether notes are reported, too.
+    /// Whether notes are reported, too, but for those of the group `texts`.
     pub notes: bool,
     /// Whether warnings count for the status.
     pub strict: bool,
@@ -83,7 +83,7 @@ fn output_of(options: &FluentLintOptions<'_>) -> Output<'static>
 {
     Output {
         format: Format::Json,
-        ignored: &[],
+        ignored: text_codes(),
         notes: options.notes,
         counts: false,
         strict: options.strict,

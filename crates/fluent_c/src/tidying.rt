@@ -17,7 +17,7 @@ use crate::{
 use fluent_syntax::parser::{Error, ParserError, parse_within};
 use fluent_text::stack::StackBudget;
 use fluent_tidy::{TidyError, tidy_within, with_line_feeds, without_mark};
-use lint_finding::SourcePosition;
+use lint_findings::SourcePosition;
 use simdutf8::basic::from_utf8;
 use std::alloc::{AllocError, Global};
 

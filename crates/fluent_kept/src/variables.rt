@@ -5,14 +5,14 @@ ghost use Rattle.std.specs.Prelude.{◌≡◌, ◌++◌, IfOk, OnOk, option_map,
 ghost use Rattle.fluent_run.specs.DeskView.{plain_ids};
 ghost use Rattle.fluent_run.specs.Listing.{lines};
 ghost use Rattle.fluent_serve.specs.Frames.{ended};
-ghost use Rattle.lint_endless.specs.HasNames.{texts};
+ghost use Rattle.lint_nodes.specs.HasNames.{texts};
 ghost use Rattle.fluent_kept.specs.Answers.{AreVariables};
 ghost use Rattle.fluent_kept.specs.Variables.{variable_lines};
 
 use crate::question::Answer;
 use fluent_calls::Callee;
 use fluent_ids::FluentIds;
-use lint_endless::variables_of;
+use lint_nodes::variables_of;
 use std::alloc::{AllocError, Global};
 
 /// The variables that the message of an id is shown with, as an answer.

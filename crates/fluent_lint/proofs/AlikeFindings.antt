@@ -1,8 +1,8 @@
 -- Findings that are like one of some.
 use Rattle.std.proofs.Common.{◌≡◌, ◌||◌, List, [], ◌∷◌, map, refl, ap}
 use Rattle.std.specs.List.{list_any}
-use Rattle.lint_finding.specs.View.{finding_view}
-use Rattle.lint_finding.specs.declared.records.Finding as code
+use Rattle.lint_findings.specs.View.{finding_view}
+use Rattle.lint_findings.specs.declared.records.Finding as code
 use Rattle.lint_findings.specs.Finding.{Finding}
 use Rattle.fluent_lint.specs.Pairs.{are_alike, is_known}
 

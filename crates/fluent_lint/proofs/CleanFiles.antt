@@ -7,9 +7,13 @@ use Rattle.fluent_grammar.specs.Words.{Text}
 use Rattle.fluent_grammar.specs.Tree as t
 use Rattle.fluent_meaning.specs.Ids.{Ids, find}
 use Rattle.lint_findings.specs.Comparison.{Difference, missing_message, obsolete_message, missing_value, obsolete_value, missing_attribute, obsolete_attribute, unknown_variable, missing_variable, unused_variable, untranslated, as_message, differences, variables_of}
+use Rattle.fluent_meaning.specs.Fallback.{with_attribute}
 use Rattle.fluent_plurals.specs.declared.plurals.LanguagePlurals.{LanguagePlurals}
-use Rattle.lint_findings.specs.ComparisonFindings.{difference_finding, difference_findings, loss_finding, loss_findings, message_findings, missing_findings}
+use Rattle.lint_findings.specs.ComparisonFindings.{difference_finding, difference_findings, loss_finding, loss_findings, message_findings, missing_findings, spotted_finding, texts_beside, texts_findings}
+use Rattle.lint_findings.specs.Doubts.{Doubt, Spotted, broken_entity, broken_tag, changed_number, changed_style, changed_url, double_space, edge_space, empty_text, empty_variant, long_access_key, long_key, long_text, lost_key, lost_placeholder, lost_sign, missing_element, missing_name, new_placeholder, straight_quote, three_dots, unclosed, unknown_element, unknown_name, unopened, unpaired_quote}
 use Rattle.lint_findings.specs.Losses.{Loss, dropped_plural, lacking_variant, losses, written_term}
+use Rattle.lint_findings.specs.Occurrences.{PatternPlace, entry_places}
+use Rattle.lint_findings.specs.Pairs.{on_texts}
 use Rattle.lint_findings.specs.DuplicateIds.{Declaration, duplicate_findings, duplicate_remark, first_declaration, id_of, label_of}
 use Rattle.lint_findings.specs.EntryFindings.{entry_findings}
 use Rattle.lint_findings.specs.Files.{File}
@@ -89,11 +93,55 @@ losses_clean source id s [] = All-nil HasHarmlessCode
 losses_clean source id s (l ∷ ls) =
     All-cons HasHarmlessCode (loss_finding source id s l) (map (loss_finding source id s) ls) (loss_clean source id s l) (losses_clean source id s ls)
 
+doubt_clean : (source owner at p : Text) (d : Doubt) → HasHarmlessCode (spotted_finding source owner at (record { doubt = d; piece = p }))
+doubt_clean source owner at p broken_tag = refl
+doubt_clean source owner at p (unknown_element known x) = refl
+doubt_clean source owner at p (unclosed x) = refl
+doubt_clean source owner at p (unopened x) = refl
+doubt_clean source owner at p (missing_element x) = refl
+doubt_clean source owner at p (unknown_name known n) = refl
+doubt_clean source owner at p (missing_name n) = refl
+doubt_clean source owner at p (broken_entity known n) = refl
+doubt_clean source owner at p (long_access_key x) = refl
+doubt_clean source owner at p (long_key x) = refl
+doubt_clean source owner at p (changed_style x) = refl
+doubt_clean source owner at p (lost_key k) = refl
+doubt_clean source owner at p (changed_url x) = refl
+doubt_clean source owner at p (lost_placeholder x) = refl
+doubt_clean source owner at p (new_placeholder x) = refl
+doubt_clean source owner at p (changed_number x) = refl
+doubt_clean source owner at p (edge_space e) = refl
+doubt_clean source owner at p double_space = refl
+doubt_clean source owner at p three_dots = refl
+doubt_clean source owner at p straight_quote = refl
+doubt_clean source owner at p (unpaired_quote x) = refl
+doubt_clean source owner at p (lost_sign x) = refl
+doubt_clean source owner at p empty_text = refl
+doubt_clean source owner at p empty_variant = refl
+doubt_clean source owner at p long_text = refl
+
+spotted_clean : (source owner at : Text) (xs : List Spotted) → Clean (map (spotted_finding source owner at) xs)
+spotted_clean source owner at [] = All-nil HasHarmlessCode
+spotted_clean source owner at (x ∷ xs) =
+    All-cons HasHarmlessCode (spotted_finding source owner at x) (map (spotted_finding source owner at) xs) (doubt_clean source owner at x.piece x.doubt) (spotted_clean source owner at xs)
+
+texts_clean : (source id : Text) (ps : List PatternPlace) (said : List (List Spotted)) → Clean (texts_findings source id ps said)
+texts_clean source id [] said = All-nil HasHarmlessCode
+texts_clean source id (p ∷ ps) [] = All-nil HasHarmlessCode
+texts_clean source id (p ∷ ps) (xs ∷ said) =
+    let owner = with_attribute id p.attribute in
+    All-append HasHarmlessCode (map (spotted_finding source owner p.pattern_at) xs) _ (spotted_clean source owner p.pattern_at xs) (texts_clean source id ps said)
+
+beside_clean : (source : Text) (m : t.Message) (s : Text) (o : Option t.Message) → Clean (texts_beside source m s o)
+beside_clean source m s None = All-nil HasHarmlessCode
+beside_clean source m s (Some o) = texts_clean source m.id (entry_places s) (on_texts m o)
+
 pub compared_clean : (ids reference : Ids (Unit {0})) (plurals : Option LanguagePlurals) (source : Text) (e : t.Entry) (s : Text) → Clean (message_findings ids reference plurals source e s)
 compared_clean ids reference plurals source (t.message m) s =
     All-append HasHarmlessCode (difference_findings ids reference source m s) _
     (differences_clean source m.id s (variables_of reference m.id) (differences ids reference m.id))
-    (losses_clean source m.id s (losses reference plurals m))
+    (All-append HasHarmlessCode (loss_findings reference plurals source m s) _
+    (losses_clean source m.id s (losses reference plurals m)) (beside_clean source m s (as_message (find reference m.id))))
 compared_clean ids reference plurals source (t.term m) s = All-nil HasHarmlessCode
 compared_clean ids reference plurals source (t.comment c) s = All-nil HasHarmlessCode
 compared_clean ids reference plurals source (t.group_comment c) s = All-nil HasHarmlessCode

@@ -3,7 +3,7 @@ use Rattle.std.proofs.Common.{◌≡◌, ◌∙◌, ℕ, ◌+◌, ◌<◌, List,
 use Rattle.std.proofs.lemmas.List.{map-append, take_more}
 use Rattle.std.proofs.lemmas.List.Sums.{sum_by-append}
 use Rattle.std.specs.List.{sum_by}
-use Rattle.lint_finding.specs.View.{file_view}
+use Rattle.lint_findings.specs.View.{file_view}
 use Rattle.lint_findings.specs.Files.{File}
 use Rattle.lint_findings.specs.Summary.{entry_count, has_id}
 use Rattle.lint_findings.specs.Tiles.{tiles}

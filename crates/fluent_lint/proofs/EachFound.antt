@@ -2,8 +2,8 @@
 use Rattle.std.proofs.Common.{◌≡◌, ◌∙◌, ℕ, zero, suc, ◌+◌, ◌<◌, ◌≤◌, List, [], ◌∷◌, ◌++◌, length, drop, get_or, map, refl, sym, ap, append-nil, append_assoc, add-one}
 use Rattle.std.specs.List.{slice_get}
 use Rattle.std.specs.Prelude.{unwrap_or}
-use Rattle.lint_finding.specs.View.{file_view, finding_view}
-use Rattle.lint_finding.specs.declared.records.FileFindings.{FileFindings}
+use Rattle.lint_findings.specs.View.{file_view, finding_view}
+use Rattle.lint_findings.specs.declared.records.FileFindings.{FileFindings}
 use Rattle.lint_findings.specs.DuplicateIds.{Declaration}
 use Rattle.lint_findings.specs.Finding.{Finding}
 use Rattle.lint_findings.specs.Findings.{Rules}

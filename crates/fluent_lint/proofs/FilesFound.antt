@@ -3,9 +3,9 @@ use Rattle.std.proofs.Common.{◌≡◌, ◌∙◌, ℕ, ◌+◌, ◌<◌, List,
 use Rattle.std.proofs.lemmas.List.{map-append, take_more}
 use Rattle.std.proofs.lemmas.List.Concat.{flat_map-append}
 use Rattle.lint_files.specs.PartFindings.{declared_in, findings_of_file}
-use Rattle.lint_finding.specs.View.{file_findings_view, file_view, finding_view, findings_view}
-use Rattle.lint_finding.specs.declared.records.File.{File}
-use Rattle.lint_finding.specs.declared.records.FileFindings.{FileFindings}
+use Rattle.lint_findings.specs.View.{file_findings_view, file_view, finding_view, findings_view}
+use Rattle.lint_findings.specs.declared.records.File.{File}
+use Rattle.lint_findings.specs.declared.records.FileFindings.{FileFindings}
 use Rattle.lint_findings.specs.DuplicateIds.{Declaration}
 use Rattle.lint_findings.specs.Findings.{FileFinding, Rules, findings_in}
 use Rattle.fluent_lint.specs.FileTiles.{files_of, files_view}

@@ -2,8 +2,8 @@
 use Rattle.std.proofs.Common.{◌≡◌, ◌∙◌, Bool, List, [], ◌∷◌, ◌++◌, Option, map, sym, ap, subst, append-nil, Bor}
 use Rattle.fluent_ast.specs.Borrowed.{entries_of}
 use Rattle.fluent_ast.specs.declared.Resource.{Resource}
-use Rattle.lint_endless.specs.Catalog.{AreDeclaredIn}
-use Rattle.lint_finding.specs.declared.records.File as code
+use Rattle.lint_nodes.specs.Catalog.{AreDeclaredIn}
+use Rattle.lint_findings.specs.declared.records.File as code
 use Rattle.lint_findings.specs.ComparisonFindings.{message_findings}
 use Rattle.lint_findings.specs.Files.{File}
 use Rattle.lint_findings.specs.Finding.{Finding}

@@ -5,8 +5,8 @@ use Rattle.std.proofs.lemmas.List.Sums.{sum_by-cons}
 use Rattle.std.specs.Prelude.{count_by, is_some, unwrap_or}
 use Rattle.fluent_grammar.specs.Words.{Text}
 use Rattle.fluent_resource.specs.Sources.{texts}
-use Rattle.lint_finding.specs.View.{finding_view}
-use Rattle.lint_finding.specs.declared.records.Finding as code
+use Rattle.lint_findings.specs.View.{finding_view}
+use Rattle.lint_findings.specs.declared.records.Finding as code
 use Rattle.lint_findings.specs.Finding.{Finding}
 use Rattle.fluent_lint.specs.Gaps.{has_place}
 use Rattle.fluent_lint.specs.MessagePlaces.{HasPlaces}

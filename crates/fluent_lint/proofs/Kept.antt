@@ -7,9 +7,9 @@ use Rattle.std.proofs.lemmas.List.Elements.{All-head, All-tail, filter-append}
 use Rattle.fluent_grammar.specs.Words.{Text, is_among}
 use Rattle.lint_files.proofs.TilesFound.{tiles_declared, tiles_found}
 use Rattle.lint_files.specs.PartFindings.{declared_in, findings_of_file}
-use Rattle.lint_finding.specs.View.{file_findings_view, finding_view, findings_view}
-use Rattle.lint_finding.specs.declared.records.FileFindings.{FileFindings}
-use Rattle.lint_finding.specs.declared.records.Finding as code
+use Rattle.lint_findings.specs.View.{file_findings_view, finding_view, findings_view}
+use Rattle.lint_findings.specs.declared.records.FileFindings.{FileFindings}
+use Rattle.lint_findings.specs.declared.records.Finding as code
 use Rattle.lint_findings.specs.DuplicateIds.{Declaration}
 use Rattle.lint_findings.specs.Files.{File}
 use Rattle.lint_findings.specs.Finding.{Finding}

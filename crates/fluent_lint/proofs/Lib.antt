@@ -22,7 +22,7 @@ pub mod Parallel
 pub mod ReferenceFiles
 pub mod TakenSteps
 pub mod Wide
-pub mod Uncommented
 pub mod Compared
 pub mod ForOriginal
 pub mod FirstParts
+pub mod Uncommented

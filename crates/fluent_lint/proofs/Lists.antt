@@ -5,7 +5,7 @@ use Rattle.std.proofs.lemmas.List.Concat.{flat_map-append}
 use denote.Ref.{Bor}
 use Rattle.fluent_ast.specs.Borrowed.{entries_of}
 use Rattle.fluent_ast.specs.declared.Resource.{Resource}
-use Rattle.lint_finding.specs.declared.records.File.{File}
+use Rattle.lint_findings.specs.declared.records.File.{File}
 use Rattle.fluent_grammar.specs.Words.{Text}
 use Rattle.fluent_meaning.proofs.InTurn.{with_ids-++}
 use Rattle.fluent_meaning.specs.Ids.{Ids, Meaning, entries_by_id, function, number_pair, with_id, with_ids}

@@ -4,10 +4,10 @@ use Rattle.std.proofs.lemmas.List.{take_more}
 use Rattle.std.proofs.lemmas.List.Concat.{flat_map-append}
 use Rattle.std.proofs.lemmas.List.Sums.{sum_by-append, sum_by-cons}
 use Rattle.lint_findings.specs.Findings.{FileFinding, findings_in}
-use Rattle.lint_finding.specs.View.{file_view, file_findings_view, finding_view, findings_view}
-use Rattle.lint_finding.specs.declared.records.FileFindings.{FileFindings}
-use Rattle.lint_finding.specs.declared.records.Finding.{Finding}
-use Rattle.lint_finding.specs.declared.records.File.{File}
+use Rattle.lint_findings.specs.View.{file_view, file_findings_view, finding_view, findings_view}
+use Rattle.lint_findings.specs.declared.records.FileFindings.{FileFindings}
+use Rattle.lint_findings.specs.declared.records.Finding.{Finding}
+use Rattle.lint_findings.specs.declared.records.File.{File}
 use Rattle.fluent_lint.specs.Counting.{is_counted}
 use Rattle.fluent_lint.specs.Totals.{found_count}
 use Rattle.fluent_lint.specs.declared.totals.Counted.{Counted}

@@ -7,7 +7,7 @@ use Rattle.fluent_ast.specs.declared.Entry.{Entry}
 use Rattle.fluent_grammar.specs.Tree as t
 use Rattle.fluent_grammar.specs.Words.{Text}
 use Rattle.fluent_meaning.specs.Ids.{Ids}
-use Rattle.lint_endless.specs.HasNames.{GetsName}
+use Rattle.lint_nodes.specs.HasNames.{GetsName}
 use Rattle.lint_entries.specs.AttributePlaces.{uncommented}
 use Rattle.lint_entries.specs.First.{AreFirst}
 use Rattle.lint_entries.specs.Kept.{Part, entry_part}
@@ -16,8 +16,8 @@ use Rattle.lint_entries.specs.TileView.{tile_view}
 use Rattle.lint_entries.specs.declared.declarations.Declarations.{Declarations}
 use Rattle.lint_entries.specs.declared.tile.Tile.{Tile}
 use Rattle.lint_files.specs.PartFindings.{offset_in}
-use Rattle.lint_finding.specs.View.{file_view, finding_view}
-use Rattle.lint_finding.specs.declared.records.Finding as code
+use Rattle.lint_findings.specs.View.{file_view, finding_view}
+use Rattle.lint_findings.specs.declared.records.Finding as code
 use Rattle.lint_findings.specs.DuplicateIds.{declarations, duplicate_findings, id_of}
 use Rattle.lint_findings.specs.Files.{File}
 use Rattle.lint_findings.specs.Finding.{Finding}

@@ -4,10 +4,10 @@ use Rattle.std.proofs.lemmas.List.Elements.{All-cons, All-map}
 use denote.Ref.{Bor}
 use Rattle.fluent_ast.specs.Borrowed.{entries_of}
 use Rattle.fluent_ast.specs.declared.Resource.{Resource}
-use Rattle.lint_endless.proofs.DeclaredIn.{declared_in_trees}
-use Rattle.lint_endless.specs.Catalog.{AreDeclaredIn, AreFunctions, is_entry}
+use Rattle.lint_nodes.proofs.DeclaredIn.{declared_in_trees}
+use Rattle.lint_nodes.specs.Catalog.{AreDeclaredIn, AreFunctions, is_entry}
 use Rattle.lint_entries.specs.AttributePlaces.{uncommented}
-use Rattle.lint_finding.specs.declared.records.File.{File}
+use Rattle.lint_findings.specs.declared.records.File.{File}
 use Rattle.lint_findings.specs.Findings.{sources}
 use Rattle.lint_findings.specs.Flaws.{catalog_ids}
 use Rattle.fluent_grammar.specs.Tiling.{list, listed, tree}

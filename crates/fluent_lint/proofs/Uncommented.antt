@@ -1,4 +1,4 @@
--- What a message loses doesn't depend on its comment.
+-- What a message loses, and what is said of its texts, doesn't depend on its comment.
 use Rattle.std.proofs.Common.{◌≡◌, List, [], ◌∷◌, ◌++◌, Option, Some, None, ap, ap₂, map, not, refl, ◌||◌}
 use Rattle.std.specs.Prelude.{if◌then◌else◌, option_map}
 use Rattle.std.specs.List.{list_any}
@@ -9,8 +9,10 @@ use Rattle.fluent_meaning.specs.Ids.{Ids, find}
 use Rattle.fluent_plurals.specs.declared.plurals.LanguagePlurals.{LanguagePlurals}
 use Rattle.lint_entries.specs.AttributePlaces.{uncommented}
 use Rattle.lint_findings.specs.Comparison.{as_message}
-use Rattle.lint_findings.specs.ComparisonFindings.{difference_findings, loss_finding, message_findings}
+use Rattle.lint_findings.specs.ComparisonFindings.{difference_findings, loss_finding, message_findings, texts_beside, texts_findings}
 use Rattle.lint_findings.specs.Losses.{chooses_plural, counted, dropped_plural, dropped_plurals, first_plural, first_term, first_written, has_forms, if_shown, is_choice, is_term, is_written, lacking_variants, losses, losses_beside, message_nodes, plural_of, term_loss, term_texts, written_by, written_term}
+use Rattle.lint_findings.specs.Occurrences.{entry_places}
+use Rattle.lint_findings.specs.Pairs.{on_attribute, on_maybe}
 use Rattle.lint_findings.specs.Nodes.{Node, expression, select, repeated_key}
 
 module _ (m : t.Message) where
@@ -77,8 +79,20 @@ module _ (m : t.Message) where
     losses_same : losses reference plurals m ≡ losses reference plurals bare
     losses_same = beside_same (as_message (find reference m.id))
 
--- nor does how it differs
+  -- ---- texts
+
+  on_texts_same : (o : t.Message) (as' : List t.Attribute) → map (on_attribute m o) as' ≡ map (on_attribute bare o) as'
+  on_texts_same o [] = refl
+  on_texts_same o (a ∷ as') = ap (λ later. on_attribute m o a ∷ later) (on_texts_same o as')
+
+  texts_same : (source s : Text) (o : Option t.Message) → texts_beside source m s o ≡ texts_beside source bare s o
+  texts_same source s None = refl
+  texts_same source s (Some o) =
+      ap (λ later. texts_findings source m.id (entry_places s) (on_maybe None m.value o.value ∷ later)) (on_texts_same o m.attributes)
+
+-- nor does how it differs, nor what is said of its texts
 pub without_comment : (ids reference : Ids (Unit {0})) (plurals : Option LanguagePlurals) (source s : Text) (m : t.Message)
     → message_findings ids reference plurals source (t.message m) s ≡ message_findings ids reference plurals source (uncommented (t.message m)) s
 without_comment ids reference plurals source s m =
-    ap (λ found. difference_findings ids reference source m s ++ map (loss_finding source m.id s) found) (losses_same m reference plurals)
+    ap₂ (λ found said. difference_findings ids reference source m s ++ (map (loss_finding source m.id s) found ++ said))
+    (losses_same m reference plurals) (texts_same m source s (as_message (find reference m.id)))

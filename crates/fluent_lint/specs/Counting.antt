@@ -1,7 +1,7 @@
 -- Which findings the code counts.
 use Rattle.std.specs.Prelude.{Bool}
 use Rattle.std.specs.Str.{bytes_eq}
-use Rattle.lint_finding.specs.View.{severity_view}
+use Rattle.lint_findings.specs.View.{severity_view}
 use Rattle.lint_findings.specs.Finding.{Finding}
 use Rattle.fluent_lint.specs.Totals.{is_taken, same_severity}
 use Rattle.fluent_lint.specs.declared.totals.Counted.{Counted}

@@ -1,7 +1,7 @@
 -- Files with their tiles.
 use Rattle.std.specs.Prelude.{◌≡◌, All, List, map}
-use Rattle.lint_finding.specs.View.{file_view}
-use Rattle.lint_finding.specs.declared.records.File.{File}
+use Rattle.lint_findings.specs.View.{file_view}
+use Rattle.lint_findings.specs.declared.records.File.{File}
 use Rattle.lint_findings.specs.Files as f
 use Rattle.lint_entries.specs.Kept.{parts}
 use Rattle.lint_entries.specs.TileView.{AreErrorsOf, IsReadPart, tile_view}

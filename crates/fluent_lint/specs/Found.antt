@@ -4,10 +4,10 @@ use Rattle.std.specs.Global.{Global}
 use Rattle.lint_files.specs.PartFindings.{declared_in, findings_of_file}
 use Rattle.lint_entries.specs.First.{AreFirst}
 use Rattle.lint_entries.specs.declared.declarations.Declarations.{Declarations}
-use Rattle.lint_finding.specs.View.{file_findings_view, file_view, finding_view, findings_view}
-use Rattle.lint_finding.specs.declared.records.File.{File}
-use Rattle.lint_finding.specs.declared.records.FileFindings.{FileFindings}
-use Rattle.lint_finding.specs.declared.records.Finding.{Finding}
+use Rattle.lint_findings.specs.View.{file_findings_view, file_view, finding_view, findings_view}
+use Rattle.lint_findings.specs.declared.records.File.{File}
+use Rattle.lint_findings.specs.declared.records.FileFindings.{FileFindings}
+use Rattle.lint_findings.specs.declared.records.Finding.{Finding}
 use Rattle.lint_findings.specs.DuplicateIds.{Declaration}
 use Rattle.lint_findings.specs.Files as f
 use Rattle.lint_findings.specs.Findings.{FileFinding, Options, Rules, catalog_rules, findings_in, missing_messages, translation_rules}

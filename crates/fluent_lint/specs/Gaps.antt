@@ -5,8 +5,8 @@ use denote.Ref.{Bor}
 use Rattle.fluent_grammar.specs.Words.{Text}
 use Rattle.fluent_resource.specs.Sources.{texts}
 use Rattle.lint_entries.specs.Made.{Adds}
-use Rattle.lint_finding.specs.View.{file_view}
-use Rattle.lint_finding.specs.declared.records.Finding.{Finding}
+use Rattle.lint_findings.specs.View.{file_view}
+use Rattle.lint_findings.specs.declared.records.Finding.{Finding}
 use Rattle.fluent_lint.specs.MessagePlaces.{HasPlaces, first_place_of}
 use Rattle.fluent_lint.specs.Pairs.{gaps, gaps_from, translated_count}
 use Rattle.fluent_lint.specs.declared.message_places.MessagePlaces.{MessagePlaces}

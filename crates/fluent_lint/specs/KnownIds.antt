@@ -14,7 +14,7 @@ use Rattle.fluent_plurals.specs.declared.plurals.LanguagePlurals.{LanguagePlural
 use Rattle.fluent_resource.specs.Sources.{texts}
 use Rattle.lint_entries.specs.Terms.{is_referred}
 use Rattle.lint_entries.specs.declared.terms.ReferredTerms.{ReferredTerms}
-use Rattle.lint_finding.specs.declared.records.File.{File}
+use Rattle.lint_findings.specs.declared.records.File.{File}
 use Rattle.lint_findings.specs.ComparisonFindings.{message_findings}
 use Rattle.lint_findings.specs.Finding.{Finding}
 use Rattle.lint_findings.specs.UnusedTerms.{is_referred_in}

@@ -1,7 +1,7 @@
 -- What is found in a language, by a reference.
 use Rattle.std.specs.Prelude.{◌≡◌, List, [], ◌∷◌, Option, drop, map}
 use Rattle.fluent_plurals.specs.declared.plurals.LanguagePlurals.{LanguagePlurals}
-use Rattle.lint_finding.specs.declared.records.File as code
+use Rattle.lint_findings.specs.declared.records.File as code
 use Rattle.lint_findings.specs.Files.{File}
 use Rattle.lint_findings.specs.Finding.{Finding}
 use Rattle.lint_findings.specs.Findings.{Options, Rules, translation_rules}

@@ -1,9 +1,9 @@
 -- What the code's reports stand for.
 use Rattle.std.specs.Prelude.{ℕ, List, string_bytes}
 use Rattle.fluent_grammar.specs.Words.{Text}
-use Rattle.lint_finding.specs.View.{findings_view}
-use Rattle.lint_finding.specs.declared.records.File.{File}
-use Rattle.lint_finding.specs.declared.records.FileFindings.{FileFindings}
+use Rattle.lint_findings.specs.View.{findings_view}
+use Rattle.lint_findings.specs.declared.records.File.{File}
+use Rattle.lint_findings.specs.declared.records.FileFindings.{FileFindings}
 use Rattle.lint_report.specs.Formats.{format_view}
 use Rattle.fluent_lint.specs.FileTiles.{files_view}
 use Rattle.fluent_lint.specs.Reports.{ignored_by, options_view}

@@ -1,8 +1,8 @@
 -- Findings of files that only the reference has, or only a language.
 use Rattle.std.specs.Prelude.{◌≡◌, ℕ, ◌==◌, if◌then◌else◌, [], ◌∷◌, ◌++◌, None, codes, decimal}
 use Rattle.fluent_grammar.specs.Words.{Text}
-use Rattle.lint_finding.specs.View.{file_findings_view}
-use Rattle.lint_finding.specs.declared.records.FileFindings.{FileFindings}
+use Rattle.lint_findings.specs.View.{file_findings_view}
+use Rattle.lint_findings.specs.declared.records.FileFindings.{FileFindings}
 use Rattle.lint_findings.specs.Files.{File}
 use Rattle.lint_findings.specs.Finding.{Finding, Severity, note, warning}
 use Rattle.lint_findings.specs.Findings.{findings_in}

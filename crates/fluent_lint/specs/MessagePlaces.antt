@@ -3,12 +3,12 @@ use Rattle.std.specs.Prelude.{◌≡◌, ℕ, List, [], ◌∷◌, ◌++◌, Opt
 use Rattle.std.specs.HashMap.{get_by}
 use Rattle.std.specs.Str.{bytes_eq}
 use Rattle.fluent_grammar.specs.Words.{Text}
-use Rattle.lint_endless.specs.HasNames.{HasNames}
-use Rattle.lint_endless.specs.declared.names.Names.{Names}
+use Rattle.lint_nodes.specs.HasNames.{HasNames}
+use Rattle.lint_nodes.specs.declared.name_set.Names.{Names}
 use Rattle.lint_entries.specs.TileView.{tile_view}
 use Rattle.lint_entries.specs.declared.tile.Tile.{Tile}
-use Rattle.lint_finding.specs.View.{file_view}
-use Rattle.lint_finding.specs.declared.records.File.{File}
+use Rattle.lint_findings.specs.View.{file_view}
+use Rattle.lint_findings.specs.declared.records.File.{File}
 use Rattle.lint_findings.specs.Comparison.{union}
 use Rattle.fluent_lint.specs.Pairs.{first_place, places_of_parts}
 use Rattle.fluent_lint.specs.declared.message_places.MessagePlaces.{MessagePlaces}

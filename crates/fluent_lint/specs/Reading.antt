@@ -3,7 +3,7 @@ use Rattle.std.specs.Prelude.{◌≡◌, List, Vec, map}
 use Rattle.std.specs.Global.{Global}
 use Rattle.fluent_ast.specs.Borrowed.{entries_of}
 use Rattle.lint_entries.specs.AttributePlaces.{uncommented}
-use Rattle.lint_finding.specs.declared.records.File.{File}
+use Rattle.lint_findings.specs.declared.records.File.{File}
 use Rattle.fluent_grammar.specs.Tiling.{errors, tree}
 use Rattle.fluent_grammar.specs.Tree as t
 use Rattle.fluent_grammar.specs.Words.{Text}

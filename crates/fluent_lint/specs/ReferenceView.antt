@@ -2,9 +2,9 @@
 use Rattle.std.specs.Prelude.{◌≡◌, ℕ, List, [], Option, length, map, option_map}
 use Rattle.std.specs.List.{slice_get}
 use Rattle.std.specs.Option.{option_map_or}
-use Rattle.lint_finding.specs.View.{file_view, finding_view, findings_view}
-use Rattle.lint_finding.specs.declared.records.File.{File}
-use Rattle.lint_finding.specs.declared.records.FileFindings.{FileFindings}
+use Rattle.lint_findings.specs.View.{file_view, finding_view, findings_view}
+use Rattle.lint_findings.specs.declared.records.File.{File}
+use Rattle.lint_findings.specs.declared.records.FileFindings.{FileFindings}
 use Rattle.lint_findings.specs.Files as f
 use Rattle.fluent_grammar.specs.Words.{Text}
 use Rattle.fluent_lint.specs.FileTiles.{files_of, files_view}

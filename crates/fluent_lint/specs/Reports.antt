@@ -13,9 +13,9 @@ use Rattle.fluent_lint.specs.declared.reports.Report.{Report}
 use Rattle.fluent_lint.specs.declared.tiles.FileTiles.{FileTiles}
 use Rattle.fluent_grammar.specs.Words.{Text}
 use Rattle.fluent_resource.specs.Sources.{texts}
-use Rattle.lint_finding.specs.View.{findings_view}
-use Rattle.lint_finding.specs.declared.records.File.{File}
-use Rattle.lint_finding.specs.declared.records.FileFindings.{FileFindings}
+use Rattle.lint_findings.specs.View.{findings_view}
+use Rattle.lint_findings.specs.declared.records.File.{File}
+use Rattle.lint_findings.specs.declared.records.FileFindings.{FileFindings}
 use Rattle.lint_findings.specs.Findings as f
 use Rattle.lint_findings.specs.Findings.{FileFinding, Rules}
 use Rattle.lint_findings.specs.Output as out

@@ -134,7 +134,12 @@ abbrev pub difference_codes : List Text
 difference_codes =
     codes "missing-value" ∷ codes "missing-attribute" ∷ codes "obsolete-value" ∷ codes "obsolete-attribute" ∷ codes "unknown-variable"
     ∷ codes "missing-variable" ∷ codes "unused-variable" ∷ codes "obsolete-message" ∷ codes "untranslated"
-    ∷ codes "variant-lacks-variable" ∷ codes "plural-dropped" ∷ codes "term-as-text" ∷ []
+    ∷ codes "variant-lacks-variable" ∷ codes "plural-dropped" ∷ codes "term-as-text"
+    ∷ codes "broken-tag" ∷ codes "unbalanced-element" ∷ codes "unknown-element" ∷ codes "missing-element" ∷ codes "missing-l10n-name"
+    ∷ codes "unknown-l10n-name" ∷ codes "broken-entity" ∷ codes "long-access-key" ∷ codes "long-key" ∷ codes "changed-style"
+    ∷ codes "access-key-not-in-label" ∷ codes "changed-url" ∷ codes "changed-placeholder" ∷ codes "changed-number" ∷ codes "edge-space"
+    ∷ codes "double-space" ∷ codes "final-punctuation" ∷ codes "three-dots" ∷ codes "unpaired-quote" ∷ codes "straight-quote"
+    ∷ codes "empty-text" ∷ codes "long-text" ∷ []
 
 abbrev pub gap_codes : List Text
 gap_codes = codes "missing-message" ∷ codes "obsolete-file" ∷ []

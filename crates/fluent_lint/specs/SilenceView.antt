@@ -10,8 +10,8 @@ use Rattle.fluent_lint.specs.Silence.{after_line, heard_if, is_silenced, left_by
 use Rattle.fluent_lint.specs.declared.looked.Looked.{Looked}
 use Rattle.fluent_lint.specs.declared.scopes.Scope.{Scope}
 use Rattle.fluent_lint.specs.declared.silence.Silence.{Silence}
-use Rattle.lint_finding.specs.View.{finding_view}
-use Rattle.lint_finding.specs.declared.records.Finding.{Finding}
+use Rattle.lint_findings.specs.View.{finding_view}
+use Rattle.lint_findings.specs.declared.records.Finding.{Finding}
 use Rattle.lint_findings.specs.Finding as f
 
 abbrev pub silence_view : Silence → s.Silence

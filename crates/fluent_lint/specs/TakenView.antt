@@ -9,15 +9,15 @@ use Rattle.fluent_grammar.specs.Words.{Text}
 use Rattle.fluent_ids.specs.IdsView.{ids_view}
 use Rattle.fluent_ids.specs.declared.ids.FluentIds.{FluentIds}
 use Rattle.fluent_meaning.specs.Ids.{Ids}
-use Rattle.lint_endless.specs.HasNames.{HasNames}
+use Rattle.lint_nodes.specs.HasNames.{HasNames}
 use Rattle.lint_entries.specs.First.{AreFirst}
 use Rattle.lint_entries.specs.Made.{Adds}
 use Rattle.lint_entries.specs.TileView.{tile_view}
 use Rattle.lint_entries.specs.declared.declarations.Declarations.{Declarations}
 use Rattle.lint_entries.specs.declared.tile.Tile.{Tile}
-use Rattle.lint_finding.specs.View.{file_view}
-use Rattle.lint_finding.specs.declared.places.SourcePosition.{SourcePosition}
-use Rattle.lint_finding.specs.declared.records.Finding.{Finding}
+use Rattle.lint_findings.specs.View.{file_view}
+use Rattle.lint_findings.specs.declared.places.SourcePosition.{SourcePosition}
+use Rattle.lint_findings.specs.declared.records.Finding.{Finding}
 use Rattle.lint_findings.specs.DuplicateIds.{Declaration, declarations, duplicate_findings}
 use Rattle.fluent_lint.specs.Taken.{Met, counts, declared_with, met_after, met_at, taken, taken_at, taken_by}
 use Rattle.fluent_lint.specs.declared.taken.Looked.{Looked}

@@ -2,12 +2,12 @@
 #![tactic(auto)]
 
 ghost use Rattle.std.specs.Prelude.{◌≡◌, map};
-ghost use Rattle.lint_finding.specs.View.{finding_view};
+ghost use Rattle.lint_findings.specs.View.{finding_view};
 ghost use Rattle.lint_report.specs.View.{optional_text};
 ghost use Rattle.fluent_lint.specs.Pairs.{are_alike, is_known, same_entry};
 ghost use Rattle.fluent_lint.specs.Translated.{KeepsNew};
 
-use lint_finding::Finding;
+use lint_findings::Finding;
 
 /// Leaves out the findings that are like one of those that are known.
 pub fn keep_new(findings: &mut Vec<Finding>, known: &[Finding])

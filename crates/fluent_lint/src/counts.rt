@@ -2,7 +2,7 @@
 #![tactic(auto)]
 
 ghost use Rattle.std.specs.Prelude.{◌≡◌, All, IfOk, filter, map};
-ghost use Rattle.lint_finding.specs.View.{findings_view};
+ghost use Rattle.lint_findings.specs.View.{findings_view};
 ghost use Rattle.fluent_lint.specs.FileTiles.{AreTilesOf, files_of, files_view};
 ghost use Rattle.fluent_lint.specs.Reports.{AreShown, AreSummaries, counts_by, counts_of};
 ghost use Rattle.fluent_lint.specs.Lacking.{is_lacking};
@@ -14,7 +14,7 @@ ghost use Rattle.lint_report.specs.Counted.{IsCounted};
 use crate::Output;
 use crate::tiles::FileTiles;
 use lint_entries::message_count;
-use lint_finding::FileFindings;
+use lint_findings::FileFindings;
 use lint_report::{FileMessages, Format, Summary, summaries};
 use std::alloc::{AllocError, Global};
 

@@ -12,10 +12,9 @@ use crate::pairs::OwnFile;
 use fluent_ast::Entry;
 use fluent_plurals::LanguagePlurals;
 use lint_comparison::Reference;
-use lint_endless::Names;
 use lint_entries::Tile;
-use lint_finding::{CatalogIds, Finding};
-use lint_nodes::declared_id;
+use lint_findings::{CatalogIds, Finding};
+use lint_nodes::{Names, declared_id};
 use std::alloc::{AllocError, Global};
 
 /// Adds how the messages of a file differ from those of the file that it is translated from. A

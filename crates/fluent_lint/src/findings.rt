@@ -14,7 +14,7 @@ use crate::silence::hear;
 use crate::tiles::FileTiles;
 use lint_entries::Declarations;
 use lint_files::{Rules, file_findings, syntax_findings};
-use lint_finding::{FileFindings, Finding};
+use lint_findings::{FileFindings, Finding};
 use std::alloc::{AllocError, Global};
 
 /// All findings by these rules: those of the files of a catalog, and then the messages of its

@@ -9,7 +9,7 @@ ghost use Rattle.fluent_lint.specs.Pairs.{gap_at};
 
 use crate::message_places::{MessagePlaces, message_ids};
 use crate::tiles::FileTiles;
-use lint_finding::{Difference, Finding};
+use lint_findings::{Difference, Finding};
 use std::alloc::{AllocError, Global};
 
 /// Adds the findings of the messages that a file lacks of the one that it is translated from. Each

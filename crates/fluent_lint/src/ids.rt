@@ -9,7 +9,7 @@ ghost use Rattle.fluent_resource.specs.Sources.{texts};
 
 use fluent_ast::Resource;
 use fluent_ids::AddFunctionError;
-use lint_finding::CatalogIds;
+use lint_findings::CatalogIds;
 use std::alloc::AllocError;
 
 /// Adds to no ids what the ids of a catalog stand for: the functions that are known, and then the

@@ -13,7 +13,7 @@ use crate::reports::Options;
 use fluent_ids::FluentIds;
 use fluent_plurals::LanguagePlurals;
 use lint_comparison::{Reference, called_functions};
-use lint_finding::CatalogIds;
+use lint_findings::CatalogIds;
 use std::alloc::{AllocError, Global};
 
 /// What ids stand for: those of the functions that are known, those of a catalog, and those of its

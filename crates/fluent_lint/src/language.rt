@@ -19,11 +19,11 @@ use crate::reports::Options;
 use crate::silence::hear;
 use crate::terms::terms_of;
 use fluent_plurals::LanguagePlurals;
-use lint_endless::EndlessPatterns;
 use lint_entries::{Catalog, Declarations};
 use lint_files::Rules;
-use lint_finding::FileFindings;
+use lint_findings::FileFindings;
 use lint_flaws::CommonCategories;
+use lint_nodes::EndlessPatterns;
 use std::alloc::{AllocError, Global};
 
 /// What is found in the files of a language, which may have plural rules, by what was read of them.

@@ -2,10 +2,10 @@
 #![tactic(auto)]
 
 ghost use Rattle.std.specs.Prelude.{◌≡◌, IfOk, string_bytes};
-ghost use Rattle.lint_finding.specs.View.{file_view, finding_view, severity_view};
+ghost use Rattle.lint_findings.specs.View.{file_view, finding_view, severity_view};
 ghost use Rattle.fluent_lint.specs.Lone.{IsAlone, empty_file, missing_file_finding, missing_locale_finding, obsolete_file_finding, of_file, plural_of};
 
-use lint_finding::{File, FileFindings, Finding, Severity};
+use lint_findings::{File, FileFindings, Finding, Severity};
 use std::alloc::{AllocError, Global};
 
 /// A file that a language lacks: it is reported by the name that it would have, with the number of

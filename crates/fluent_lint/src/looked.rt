@@ -11,7 +11,7 @@ ghost use Rattle.fluent_resource.specs.Sources.{texts};
 use crate::original::Original;
 use crate::reported::is_among;
 use fluent_plurals::LanguagePlurals;
-use lint_finding::File;
+use lint_findings::File;
 
 /// What is looked for: plural categories, how messages differ from those of a reference, and which
 /// of them are missing, file by file.
@@ -26,7 +26,7 @@ pub struct Looked {
 const PLURAL_CODES: [&str; 3] = ["missing-category", "unknown-category", "unused-category"];
 
 /// The codes of findings about how messages differ.
-const DIFFERENCE_CODES: [&str; 12] = [
+const DIFFERENCE_CODES: [&str; 34] = [
     "missing-value",
     "missing-attribute",
     "obsolete-value",
@@ -39,6 +39,28 @@ const DIFFERENCE_CODES: [&str; 12] = [
     "variant-lacks-variable",
     "plural-dropped",
     "term-as-text",
+    "broken-tag",
+    "unbalanced-element",
+    "unknown-element",
+    "missing-element",
+    "missing-l10n-name",
+    "unknown-l10n-name",
+    "broken-entity",
+    "long-access-key",
+    "long-key",
+    "changed-style",
+    "access-key-not-in-label",
+    "changed-url",
+    "changed-placeholder",
+    "changed-number",
+    "edge-space",
+    "double-space",
+    "final-punctuation",
+    "three-dots",
+    "unpaired-quote",
+    "straight-quote",
+    "empty-text",
+    "long-text",
 ];
 
 /// The codes of findings about what is missing in a file.

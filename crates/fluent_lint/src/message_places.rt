@@ -2,18 +2,18 @@
 #![tactic(auto)]
 
 ghost use Rattle.std.specs.Prelude.{◌≡◌, [], IfOk, OnOk, is_some, map};
-ghost use Rattle.lint_endless.specs.HasNames.{HasNames};
+ghost use Rattle.lint_nodes.specs.HasNames.{HasNames};
 ghost use Rattle.lint_entries.specs.TileView.{tile_view};
-ghost use Rattle.lint_finding.specs.View.{file_view};
+ghost use Rattle.lint_findings.specs.View.{file_view};
 ghost use Rattle.fluent_lint.specs.FileTiles.{AreTilesOf};
 ghost use Rattle.fluent_lint.specs.MessagePlaces.{GetsIds, GetsPlace, GetsPlaces, HasPlaces, first_place_of, places_of_tiles};
 ghost use Rattle.fluent_lint.specs.Pairs.{id_of_part, ids_of_parts, message_ids, message_place, message_places};
 
 use crate::tiles::FileTiles;
 use fluent_ast::Entry;
-use lint_endless::Names;
 use lint_entries::Tile;
-use lint_finding::File;
+use lint_findings::File;
+use lint_nodes::Names;
 use std::alloc::{AllocError, Global};
 use std::collections::HashMap;
 

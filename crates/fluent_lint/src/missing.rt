@@ -8,7 +8,7 @@ ghost use Rattle.fluent_lint.specs.Missing.{AddsMissing};
 
 use crate::tiles::FileTiles;
 use lint_comparison::missing_findings;
-use lint_finding::{CatalogIds, FileFindings};
+use lint_findings::{CatalogIds, FileFindings};
 use std::alloc::{AllocError, Global};
 
 /// Adds the messages of the files of a reference that a catalog with these ids hasn't, file by

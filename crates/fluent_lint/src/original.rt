@@ -1,6 +1,6 @@
 //! What files of a language are translated from, and what is found of them.
 
-use lint_finding::FileFindings;
+use lint_findings::FileFindings;
 
 /// What a file of a language is translated from.
 #[derive(Clone, Copy)]

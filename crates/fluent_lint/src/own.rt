@@ -13,7 +13,7 @@ use crate::refers::wide_ids;
 use crate::tiles::{FileTiles, tiles_of_files};
 use fluent_ast::Resource;
 use fluent_ids::FluentIds;
-use lint_finding::CatalogIds;
+use lint_findings::CatalogIds;
 use std::alloc::{AllocError, Global};
 
 /// Files with their tiles, and at the index of each what its own messages and terms stand for.

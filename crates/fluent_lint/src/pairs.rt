@@ -18,7 +18,7 @@ use crate::taken::push_taken;
 use crate::tiles::FileTiles;
 use lint_entries::Declarations;
 use lint_files::{Rules, file_findings, syntax_findings};
-use lint_finding::{CatalogIds, Finding};
+use lint_findings::{CatalogIds, Finding};
 use std::alloc::{AllocError, Global};
 
 /// A file with what its own messages and terms stand for.

@@ -9,7 +9,7 @@ ghost use Rattle.fluent_parsed.specs.ErrorView.{error_view};
 
 use fluent_ast::{Entry, Resource};
 use fluent_parser::{Error, ParserError, StackBudget, parse_within};
-use lint_finding::File;
+use lint_findings::File;
 use std::alloc::{AllocError, Global};
 
 /// Files with their trees, without the comments above messages and terms, and with the errors of

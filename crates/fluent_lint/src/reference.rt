@@ -6,7 +6,7 @@ ghost use Rattle.fluent_lint.specs.FileTiles.{files_view};
 ghost use Rattle.fluent_lint.specs.Own.{IsOwn, IsWideIn};
 ghost use Rattle.fluent_lint.specs.Reading.{IsRead};
 ghost use Rattle.fluent_lint.specs.ReferenceView.{AreFoundAlone, IsFileAt, IsReference, counted_at, ids_at};
-ghost use Rattle.lint_endless.specs.HasNames.{texts};
+ghost use Rattle.lint_nodes.specs.HasNames.{texts};
 
 use crate::findings::catalog_findings;
 use crate::known::Known;
@@ -17,11 +17,11 @@ use crate::read::ReadFiles;
 use crate::reports::Options;
 use crate::terms::terms_of;
 use crate::tiles::tiles_of_files;
-use lint_endless::EndlessPatterns;
 use lint_entries::Catalog;
 use lint_files::Rules;
-use lint_finding::FileFindings;
+use lint_findings::FileFindings;
 use lint_flaws::CommonCategories;
+use lint_nodes::EndlessPatterns;
 use std::alloc::{AllocError, Global};
 
 /// What is known of the files of a reference, once for all languages.

@@ -11,7 +11,7 @@ ghost use Rattle.std.specs.List.{list_any};
 
 use fluent_ast::{Attribute, Entry, InlineExpression, Pattern, Resource};
 use fluent_ids::FluentIds;
-use lint_finding::CatalogIds;
+use lint_findings::CatalogIds;
 use lint_nodes::{Node, pattern_nodes};
 use std::alloc::{AllocError, Global};
 

@@ -7,7 +7,7 @@ ghost use Rattle.fluent_lint.specs.Found.{AreKept, AreKeptOf};
 ghost use Rattle.fluent_lint.specs.InOrder.{in_order};
 ghost use Rattle.fluent_resource.specs.Sources.{texts};
 
-use lint_finding::{FileFindings, Finding};
+use lint_findings::{FileFindings, Finding};
 use std::alloc::AllocError;
 
 /// Leaves out the findings of files whose code is ignored.

@@ -6,7 +6,7 @@ ghost use Rattle.fluent_lint.specs.LintView.{ending_on_findings, report_on_files
 ghost use Rattle.fluent_lint.specs.Reading.{IsRead};
 ghost use Rattle.fluent_lint.specs.Reports.{IsReportBy, IsReportOf, IsReportOn, ending};
 ghost use Rattle.lint_files.specs.RulesView.{rules_view};
-ghost use Rattle.lint_finding.specs.View.{findings_view};
+ghost use Rattle.lint_findings.specs.View.{findings_view};
 ghost use Rattle.lint_findings.specs.Report.{has_failed as fails};
 ghost use Rattle.lint_report.specs.Changes.{Appends};
 ghost use Rattle.lint_report.specs.ReportView.{summary_view};
@@ -22,11 +22,11 @@ use crate::tiles::tiles_of_files;
 use crate::totals::{push_taken, push_totals};
 use fluent_parser::StackBudget;
 use fluent_plurals::LanguagePlurals;
-use lint_endless::EndlessPatterns;
 use lint_entries::Catalog;
 use lint_files::Rules;
-use lint_finding::{File, FileFindings};
+use lint_findings::{File, FileFindings};
 use lint_flaws::CommonCategories;
+use lint_nodes::EndlessPatterns;
 use lint_report::{Format, Summary, has_failed, report};
 use std::alloc::{AllocError, Global};
 

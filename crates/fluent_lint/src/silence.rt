@@ -2,7 +2,7 @@
 #![tactic(auto)]
 
 ghost use Rattle.std.specs.Prelude.{◌≡◌, ◌++◌, IfOk, OnOk, map};
-ghost use Rattle.lint_finding.specs.View.{finding_view};
+ghost use Rattle.lint_findings.specs.View.{finding_view};
 ghost use Rattle.fluent_lint.specs.Silence.{between_commas, is_inside, is_silenced, is_unused, silences, silences_any, silences_finding, silences_from, unused_finding};
 ghost use Rattle.fluent_resource.specs.Sources.{texts};
 ghost use Rattle.fluent_lint.specs.SilenceView.{AddsCodes, AddsLine, AreUnsilenced, AreUnused, Hears, LeavesOut, silence_view, silences_view};
@@ -12,7 +12,7 @@ use crate::looked::{Looked, is_silenced_code};
 use crate::reported::order;
 use crate::scopes::{after_line, lines_of, silencing};
 use crate::table::sum;
-use lint_finding::{Finding, Severity};
+use lint_findings::{Finding, Severity};
 use std::alloc::{AllocError, Global};
 
 /// Leaves out the findings of a source that its comments leave out, and adds those of comments that

@@ -2,13 +2,13 @@
 #![tactic(auto)]
 
 ghost use Rattle.std.specs.Prelude.{◌≡◌, ◌+◌, IfOk};
-ghost use Rattle.lint_finding.specs.View.{findings_view};
+ghost use Rattle.lint_findings.specs.View.{findings_view};
 ghost use Rattle.fluent_lint.specs.Table.{both_counts, both_messages, counts, no_counts, per_mille};
 ghost use Rattle.fluent_lint.specs.Translated.{alone_of, lacking_of, translated_of};
 
 use crate::original::Messages;
 use crate::totals::{code_count, severity_count};
-use lint_finding::{FileFindings, Severity};
+use lint_findings::{FileFindings, Severity};
 use std::alloc::AllocError;
 
 /// The counts of a file, of a language or of all.

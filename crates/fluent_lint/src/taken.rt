@@ -6,15 +6,14 @@ ghost use Rattle.fluent_ast.specs.Borrowed.{entry_of};
 ghost use Rattle.fluent_lint.specs.FileTiles.{AreTilesOf};
 ghost use Rattle.fluent_lint.specs.Taken.{is_looked_up};
 ghost use Rattle.fluent_lint.specs.TakenView.{AddsAt, AddsTaken, CountsBy, DeclaresAt, Finds, FindsTile, GetsDeclared, MeetsEntry, MeetsTile, of_looked};
-ghost use Rattle.lint_finding.specs.PlaceView.{IsPlaceIn};
+ghost use Rattle.lint_findings.specs.PlaceView.{IsPlaceIn};
 
 use crate::tiles::FileTiles;
 use fluent_ast::Entry;
 use fluent_ids::FluentIds;
-use lint_endless::Names;
 use lint_entries::{Declarations, Location, Tile, push_found};
-use lint_finding::{CatalogIds, File, Finding, SourcePosition};
-use lint_nodes::declared_id;
+use lint_findings::{CatalogIds, File, Finding, SourcePosition};
+use lint_nodes::{Names, declared_id};
 use std::alloc::{AllocError, Global};
 
 /// Adds the findings of the entries of a file whose ids an earlier file of the language has as

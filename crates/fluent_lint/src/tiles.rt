@@ -11,7 +11,7 @@ use crate::read::ReadFiles;
 use fluent_ast::Resource;
 use fluent_parser::ParserError;
 use lint_entries::{Tile, source_tiles};
-use lint_finding::File;
+use lint_findings::File;
 use std::alloc::{AllocError, Global};
 
 /// A file with its tiles and the errors of its junk.

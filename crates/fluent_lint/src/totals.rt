@@ -2,11 +2,11 @@
 
 ghost use Rattle.lint_report.specs.Changes.{Appends};
 ghost use Rattle.std.specs.Prelude.{◌≡◌, ◌++◌, [], IfOk, OnOk, codes, count_by, if◌then◌else◌};
-ghost use Rattle.lint_finding.specs.View.{finding_view, findings_view, severity_view};
+ghost use Rattle.lint_findings.specs.View.{finding_view, findings_view, severity_view};
 ghost use Rattle.fluent_lint.specs.Counting.{is_counted};
 ghost use Rattle.fluent_lint.specs.Totals.{are_most_taken, code_count, counted, found_count, notes_total, same_severity, severity_count, taken_line, totals_line};
 
-use lint_finding::{FileFindings, Finding, Severity};
+use lint_findings::{FileFindings, Finding, Severity};
 use std::alloc::AllocError;
 
 /// Appends how many findings there are in this many files: `2 errors, 9 warnings in 227 files`.

@@ -4,6 +4,7 @@ use Rattle.clap.specs.Words.{Text, subcommand_of}
 use Rattle.clap.specs.declared.error.kind.ErrorKind.TheVariants.{MissingRequiredArgument, UnknownArgument}
 use Rattle.clap.proofs.OnLiterals.{clap_on_literals}
 use Rattle.lint_findings.specs.Output.{json, terminal, text}
+use Rattle.lint_findings.specs.Report.{text_codes}
 use Rattle.ftl_arguments.specs.Meaning.{AskForHelpAlone, AskForVersionAlone, check, clean, command_of, explained_of, faults_of, format, join, lint, lint_input, lint_project, run, status, tidy, tidy_files, tidy_input}
 use Rattle.ftl_arguments.specs.Commands.{program_app}
 use Rattle.ftl_arguments.specs.Projects.{markdown}
@@ -85,12 +86,12 @@ unfolding clap_on_literals
 no_value = refl
 
 a_lint : command_of false (codes "lint" ∷ codes "a" ∷ [])
-    ≡ Some (lint (record { references = []; functions = []; ignored = []; locale = None; notes = false; counts = false; strict = false; format = text; files = codes "a" ∷ [] }))
+    ≡ Some (lint (record { references = []; functions = []; ignored = text_codes; locale = None; notes = false; counts = false; strict = false; format = text; files = codes "a" ∷ [] }))
 unfolding clap_on_literals
 a_lint = refl
 
 a_lint_of_the_input : command_of false (codes "lint" ∷ codes "--strict" ∷ codes "-" ∷ [])
-    ≡ Some (lint_input (record { references = []; functions = []; ignored = []; locale = None; notes = false; counts = false; strict = true; format = text; files = codes "-" ∷ [] }))
+    ≡ Some (lint_input (record { references = []; functions = []; ignored = text_codes; locale = None; notes = false; counts = false; strict = true; format = text; files = codes "-" ∷ [] }))
 unfolding clap_on_literals
 a_lint_of_the_input = refl
 
@@ -98,7 +99,7 @@ a_lint_with_options : command_of false (codes "lint" ∷ codes "--reference" ∷
     ≡ Some (lint (record {
       references = codes "r1" ∷ codes "r2" ∷ [];
       functions = codes "F" ∷ codes "G" ∷ [];
-      ignored = [];
+      ignored = text_codes;
       locale = Some (codes "pl_PL.UTF-8");
       notes = true;
       counts = false;
@@ -110,22 +111,22 @@ unfolding clap_on_literals
 a_lint_with_options = refl
 
 in_colours : command_of false (codes "lint" ∷ codes "--color=always" ∷ codes "a" ∷ [])
-    ≡ Some (lint (record { references = []; functions = []; ignored = []; locale = None; notes = false; counts = false; strict = false; format = terminal; files = codes "a" ∷ [] }))
+    ≡ Some (lint (record { references = []; functions = []; ignored = text_codes; locale = None; notes = false; counts = false; strict = false; format = terminal; files = codes "a" ∷ [] }))
 unfolding clap_on_literals
 in_colours = refl
 
 on_a_screen : command_of true (codes "lint" ∷ codes "a" ∷ [])
-    ≡ Some (lint (record { references = []; functions = []; ignored = []; locale = None; notes = false; counts = false; strict = false; format = terminal; files = codes "a" ∷ [] }))
+    ≡ Some (lint (record { references = []; functions = []; ignored = text_codes; locale = None; notes = false; counts = false; strict = false; format = terminal; files = codes "a" ∷ [] }))
 unfolding clap_on_literals
 on_a_screen = refl
 
 never_on_a_screen : command_of true (codes "lint" ∷ codes "--color=never" ∷ codes "a" ∷ [])
-    ≡ Some (lint (record { references = []; functions = []; ignored = []; locale = None; notes = false; counts = false; strict = false; format = text; files = codes "a" ∷ [] }))
+    ≡ Some (lint (record { references = []; functions = []; ignored = text_codes; locale = None; notes = false; counts = false; strict = false; format = text; files = codes "a" ∷ [] }))
 unfolding clap_on_literals
 never_on_a_screen = refl
 
 no_colours_in_json : command_of false (codes "lint" ∷ codes "--color" ∷ codes "always" ∷ codes "--format" ∷ codes "json" ∷ codes "a" ∷ [])
-    ≡ Some (lint (record { references = []; functions = []; ignored = []; locale = None; notes = false; counts = false; strict = false; format = json; files = codes "a" ∷ [] }))
+    ≡ Some (lint (record { references = []; functions = []; ignored = text_codes; locale = None; notes = false; counts = false; strict = false; format = json; files = codes "a" ∷ [] }))
 unfolding clap_on_literals
 no_colours_in_json = refl
 
@@ -141,7 +142,7 @@ codes_to_ignore : command_of false (codes "lint" ∷ codes "--ignore" ∷ codes 
     ≡ Some (lint (record {
       references = [];
       functions = [];
-      ignored = codes "untranslated" ∷ codes "no-value" ∷ [];
+      ignored = codes "untranslated" ∷ codes "no-value" ∷ text_codes;
       locale = None;
       notes = false;
       counts = false;
@@ -156,7 +157,7 @@ codes_with_commas : command_of false (codes "lint" ∷ codes "--ignore" ∷ code
     ≡ Some (lint (record {
       references = [];
       functions = [];
-      ignored = codes "untranslated" ∷ codes "no-value" ∷ codes "syntax" ∷ [];
+      ignored = codes "untranslated" ∷ codes "no-value" ∷ codes "syntax" ∷ text_codes;
       locale = None;
       notes = false;
       counts = false;
@@ -172,14 +173,19 @@ codes_to_select : command_of false (codes "lint" ∷ codes "--select" ∷ codes 
     ≡ Some (lint (record {
       references = [];
       functions = [];
-      ignored = codes "byte-order-mark" ∷ codes "duplicate-id" ∷ codes "unknown-message" ∷ codes "unknown-term" ∷ codes "unknown-attribute"
-          ∷ codes "no-default" ∷ codes "cyclic-reference" ∷ codes "unknown-function" ∷ codes "duplicate-attribute" ∷ codes "duplicate-variant"
-          ∷ codes "invalid-escape" ∷ codes "unknown-option" ∷ codes "missing-category" ∷ codes "placeable-in-literal" ∷ codes "unknown-term-argument"
-          ∷ codes "unknown-term-variant" ∷ codes "unknown-category" ∷ codes "unused-category" ∷ codes "replacement-character" ∷ codes "control-character"
-          ∷ codes "zero-width" ∷ codes "unbalanced-direction" ∷ codes "unused-term" ∷ codes "missing-message" ∷ codes "missing-value"
-          ∷ codes "missing-attribute" ∷ codes "obsolete-value" ∷ codes "obsolete-attribute" ∷ codes "unknown-variable" ∷ codes "missing-variable"
-          ∷ codes "unused-variable" ∷ codes "obsolete-message" ∷ codes "variant-lacks-variable" ∷ codes "plural-dropped"
-          ∷ codes "term-as-text" ∷ codes "missing-file" ∷ codes "missing-locale" ∷ codes "obsolete-file" ∷ codes "unused-ignore" ∷ [];
+      ignored = codes "byte-order-mark" ∷ codes "duplicate-id" ∷ codes "unknown-message" ∷ codes "unknown-term" ∷ codes "unknown-attribute" ∷ codes "no-default"
+          ∷ codes "cyclic-reference" ∷ codes "unknown-function" ∷ codes "duplicate-attribute" ∷ codes "duplicate-variant" ∷ codes "invalid-escape"
+          ∷ codes "unknown-option" ∷ codes "missing-category" ∷ codes "placeable-in-literal" ∷ codes "unknown-term-argument"
+          ∷ codes "unknown-term-variant" ∷ codes "unknown-category" ∷ codes "unused-category" ∷ codes "replacement-character"
+          ∷ codes "control-character" ∷ codes "zero-width" ∷ codes "unbalanced-direction" ∷ codes "mixed-scripts" ∷ codes "wrong-encoding"
+          ∷ codes "unused-term" ∷ codes "missing-message" ∷ codes "missing-value" ∷ codes "missing-attribute" ∷ codes "obsolete-value"
+          ∷ codes "obsolete-attribute" ∷ codes "unknown-variable" ∷ codes "missing-variable" ∷ codes "unused-variable" ∷ codes "obsolete-message"
+          ∷ codes "variant-lacks-variable" ∷ codes "plural-dropped" ∷ codes "term-as-text" ∷ codes "broken-tag" ∷ codes "unbalanced-element"
+          ∷ codes "unknown-element" ∷ codes "missing-element" ∷ codes "missing-l10n-name" ∷ codes "unknown-l10n-name" ∷ codes "broken-entity"
+          ∷ codes "long-access-key" ∷ codes "long-key" ∷ codes "changed-style" ∷ codes "access-key-not-in-label" ∷ codes "changed-url"
+          ∷ codes "changed-placeholder" ∷ codes "changed-number" ∷ codes "edge-space" ∷ codes "double-space" ∷ codes "final-punctuation"
+          ∷ codes "three-dots" ∷ codes "unpaired-quote" ∷ codes "straight-quote" ∷ codes "empty-text" ∷ codes "long-text" ∷ codes "missing-file"
+          ∷ codes "missing-locale" ∷ codes "obsolete-file" ∷ codes "unused-ignore" ∷ [];
       locale = None;
       notes = true;
       counts = false;
@@ -189,6 +195,32 @@ codes_to_select : command_of false (codes "lint" ∷ codes "--select" ∷ codes 
     }))
 unfolding clap_on_literals
 codes_to_select = refl
+
+-- the notes on texts are asked for by the name of their group
+the_group_to_select : command_of false (codes "lint" ∷ codes "--select=texts" ∷ codes "a" ∷ [])
+    ≡ Some (lint (record {
+      references = [];
+      functions = [];
+      ignored = codes "syntax" ∷ codes "byte-order-mark" ∷ codes "duplicate-id" ∷ codes "unknown-message" ∷ codes "unknown-term" ∷ codes "unknown-attribute"
+          ∷ codes "no-value" ∷ codes "no-default" ∷ codes "cyclic-reference" ∷ codes "unknown-function" ∷ codes "duplicate-attribute"
+          ∷ codes "duplicate-variant" ∷ codes "invalid-escape" ∷ codes "unknown-option" ∷ codes "missing-category" ∷ codes "placeable-in-literal"
+          ∷ codes "unknown-term-argument" ∷ codes "unknown-term-variant" ∷ codes "unknown-category" ∷ codes "unused-category"
+          ∷ codes "replacement-character" ∷ codes "control-character" ∷ codes "zero-width" ∷ codes "unbalanced-direction" ∷ codes "mixed-scripts"
+          ∷ codes "wrong-encoding" ∷ codes "unused-term" ∷ codes "missing-message" ∷ codes "missing-value" ∷ codes "missing-attribute"
+          ∷ codes "obsolete-value" ∷ codes "obsolete-attribute" ∷ codes "unknown-variable" ∷ codes "missing-variable" ∷ codes "unused-variable"
+          ∷ codes "obsolete-message" ∷ codes "untranslated" ∷ codes "variant-lacks-variable" ∷ codes "plural-dropped" ∷ codes "term-as-text"
+          ∷ codes "broken-tag" ∷ codes "unbalanced-element" ∷ codes "unknown-element" ∷ codes "missing-element" ∷ codes "missing-l10n-name"
+          ∷ codes "unknown-l10n-name" ∷ codes "broken-entity" ∷ codes "long-access-key" ∷ codes "long-key" ∷ codes "changed-style"
+          ∷ codes "access-key-not-in-label" ∷ codes "missing-file" ∷ codes "missing-locale" ∷ codes "obsolete-file" ∷ codes "unused-ignore" ∷ [];
+      locale = None;
+      notes = true;
+      counts = false;
+      strict = false;
+      format = text;
+      files = codes "a" ∷ [];
+    }))
+unfolding clap_on_literals
+the_group_to_select = refl
 
 abbrev explains : List Text → Option Text
 explains words = explained_of (subcommand_of program_app words)
@@ -219,7 +251,7 @@ unfolding clap_on_literals
 no_such_code = refl
 
 counts_of_a_reference : command_of false (codes "lint" ∷ codes "--counts" ∷ codes "--reference" ∷ codes "r" ∷ codes "a" ∷ [])
-    ≡ Some (lint (record { references = codes "r" ∷ []; functions = []; ignored = []; locale = None; notes = false; counts = true; strict = false; format = text; files = codes "a" ∷ [] }))
+    ≡ Some (lint (record { references = codes "r" ∷ []; functions = []; ignored = text_codes; locale = None; notes = false; counts = true; strict = false; format = text; files = codes "a" ∷ [] }))
 unfolding clap_on_literals
 counts_of_a_reference = refl
 
@@ -228,7 +260,7 @@ unfolding clap_on_literals
 counts_of_nothing = refl
 
 a_name_with_signs : command_of false (codes "lint" ∷ codes "--function" ∷ codes "A_1-B" ∷ codes "a" ∷ [])
-    ≡ Some (lint (record { references = []; functions = codes "A_1-B" ∷ []; ignored = []; locale = None; notes = false; counts = false; strict = false; format = text; files = codes "a" ∷ [] }))
+    ≡ Some (lint (record { references = []; functions = codes "A_1-B" ∷ []; ignored = text_codes; locale = None; notes = false; counts = false; strict = false; format = text; files = codes "a" ∷ [] }))
 unfolding clap_on_literals
 a_name_with_signs = refl
 
@@ -266,7 +298,7 @@ the_project_of_the_folder : command_of false (codes "lint" ∷ [])
       project = record { references = []; files = []; locales = []; variables = [] };
       only = [];
       functions = [];
-      ignored = [];
+      ignored = text_codes;
       baseline = None;
       written = None;
       notes = false;
@@ -281,7 +313,7 @@ a_project_with_options : command_of false (codes "lint" ∷ codes "l10n.toml" �
       project = record { references = []; files = codes "l10n.toml" ∷ []; locales = codes "de" ∷ codes "pl" ∷ []; variables = (codes "a", codes "b") ∷ [] };
       only = codes "de" ∷ [];
       functions = [];
-      ignored = [];
+      ignored = text_codes;
       baseline = None;
       written = None;
       notes = false;
@@ -296,7 +328,7 @@ a_project_with_a_baseline : command_of false (codes "lint" ∷ codes "--baseline
       project = record { references = []; files = []; locales = []; variables = [] };
       only = [];
       functions = [];
-      ignored = [];
+      ignored = text_codes;
       baseline = Some (codes "old.jsonl");
       written = Some (codes "new.jsonl");
       notes = false;

@@ -6,6 +6,7 @@ use Rattle.std.specs.Str.{bytes_eq}
 use Rattle.clap.specs.Words.{Row, Text, first_of}
 use Rattle.fluent_grammar.specs.Words.{begins, is_callee_byte, is_capital}
 use Rattle.ftl_arguments.specs.Found.{is_given, values_in, locale_in}
+use Rattle.lint_findings.specs.Report.{text_codes}
 use Rattle.lint_findings.specs.Output.{Format, text, terminal, lines, json, github, sarif, gitlab}
 
 -- report what is found in the catalog that the sources in these files, and below these folders, are
@@ -36,21 +37,39 @@ finding_codes =
     ∷ codes "unknown-attribute" ∷ codes "no-value" ∷ codes "no-default" ∷ codes "cyclic-reference" ∷ codes "unknown-function" ∷ codes "duplicate-attribute"
     ∷ codes "duplicate-variant" ∷ codes "invalid-escape" ∷ codes "unknown-option" ∷ codes "missing-category"
     ∷ codes "placeable-in-literal" ∷ codes "unknown-term-argument" ∷ codes "unknown-term-variant" ∷ codes "unknown-category"
-    ∷ codes "unused-category" ∷ codes "replacement-character" ∷ codes "control-character" ∷ codes "zero-width" ∷ codes "unbalanced-direction"
+    ∷ codes "unused-category" ∷ codes "replacement-character" ∷ codes "control-character" ∷ codes "zero-width" ∷ codes "unbalanced-direction" ∷ codes "mixed-scripts" ∷ codes "wrong-encoding"
     ∷ codes "unused-term" ∷ codes "missing-message" ∷ codes "missing-value" ∷ codes "missing-attribute" ∷ codes "obsolete-value"
     ∷ codes "obsolete-attribute" ∷ codes "unknown-variable" ∷ codes "missing-variable" ∷ codes "unused-variable" ∷ codes "obsolete-message"
-    ∷ codes "untranslated" ∷ codes "variant-lacks-variable" ∷ codes "plural-dropped" ∷ codes "term-as-text" ∷ codes "missing-file" ∷ codes "missing-locale" ∷ codes "obsolete-file" ∷ codes "unused-ignore" ∷ []
+    ∷ codes "untranslated" ∷ codes "variant-lacks-variable" ∷ codes "plural-dropped" ∷ codes "term-as-text"
+    ∷ codes "broken-tag" ∷ codes "unbalanced-element" ∷ codes "unknown-element" ∷ codes "missing-element" ∷ codes "missing-l10n-name"
+    ∷ codes "unknown-l10n-name" ∷ codes "broken-entity" ∷ codes "long-access-key" ∷ codes "long-key" ∷ codes "changed-style"
+    ∷ codes "access-key-not-in-label" ∷ codes "changed-url" ∷ codes "changed-placeholder" ∷ codes "changed-number" ∷ codes "edge-space"
+    ∷ codes "double-space" ∷ codes "final-punctuation" ∷ codes "three-dots" ∷ codes "unpaired-quote" ∷ codes "straight-quote"
+    ∷ codes "empty-text" ∷ codes "long-text"
+    ∷ codes "missing-file" ∷ codes "missing-locale" ∷ codes "obsolete-file" ∷ codes "unused-ignore" ∷ []
 
+abbrev pub is_finding_code : Text → Bool
+is_finding_code name = list_any (λ code. bytes_eq code name) finding_codes
+
+-- a code, or the name of the group of notes on texts
 abbrev pub is_code : Text → Bool
-is_code name = list_any (λ code. bytes_eq code name) finding_codes
+is_code name = bytes_eq name (codes "texts") || is_finding_code name
+
+-- the codes that a name stands for
+abbrev pub codes_named : Text → List Text
+codes_named name = if bytes_eq name (codes "texts") then text_codes else name ∷ []
 
 -- the codes of a value, between its commas
 abbrev pub code_list : Text → List Text
 code_list value = slice_split (λ byte. byte == 44) value
 
--- the codes of all values of an option
+-- the names in all values of an option
 abbrev pub codes_in : Text → List Row → List Text
 codes_in name rows = flat_map code_list (values_in name rows)
+
+-- the codes of all values of an option
+abbrev pub named_in : Text → List Row → List Text
+named_in name rows = flat_map codes_named (codes_in name rows)
 
 abbrev pub is_any : List Text → Bool
 is_any [] = false
@@ -62,13 +81,13 @@ is_among texts name = list_any (λ text. bytes_eq text name) texts
 abbrev pub others_of : List Text → List Text → List Text
 others_of selected names = filter (λ name. not (is_among selected name)) names
 
--- If codes are selected, all others are left out.
+-- If codes are selected, all others are left out, and otherwise the notes on texts.
 abbrev pub unselected : List Text → List Text
-unselected selected = if is_any selected then others_of selected finding_codes else []
+unselected selected = if is_any selected then others_of selected finding_codes else text_codes
 
 -- by `--ignore` and `--select`
 abbrev pub ignored_in : List Row → List Text
-ignored_in rows = codes_in (codes "ignore") rows ++ unselected (codes_in (codes "select") rows)
+ignored_in rows = named_in (codes "ignore") rows ++ unselected (named_in (codes "select") rows)
 
 -- both name codes of findings
 abbrev pub are_known : List Row → Bool
@@ -152,7 +171,7 @@ lint_with rows report_format = record {
 
 -- the code that is to be explained
 abbrev pub code_of : Text → Option Text
-code_of name = if is_code name then Some name else None
+code_of name = if is_finding_code name then Some name else None
 
 abbrev pub explained_in : List Row → Option Text
 explained_in rows = option_and_then code_of (first_of (codes "explain") rows)

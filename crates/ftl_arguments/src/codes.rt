@@ -1,17 +1,19 @@
 //! The codes of findings that `lint` leaves out.
 ghost use Rattle.std.specs.Prelude.{◌≡◌, ◌++◌, IfOk, OnOk, codes, false, true};
-ghost use Rattle.std.specs.List.{list_all};
-ghost use Rattle.ftl_arguments.specs.Linting.{are_known, code_list, codes_in, finding_codes, ignored_in, is_among, is_any, is_code, others_of, unselected};
+ghost use Rattle.std.specs.List.{flat_map, list_all};
+ghost use Rattle.lint_findings.specs.Report.{text_codes};
+ghost use Rattle.ftl_arguments.specs.Linting.{are_known, code_list, codes_in, codes_named, finding_codes, ignored_in, is_among, is_any, is_code, named_in, others_of, unselected};
 ghost use Rattle.ftl_arguments.specs.Meaning.{texts};
 ghost use Rattle.ftl_arguments.specs.CommandView.{found_rows, IfRefused};
 
 use crate::linting::{CODES, is_code};
 use crate::reading::{WordsError, values_in};
 use clap::ArgMatches;
+use lint_report::text_codes;
 use std::alloc::{AllocError, Global};
 
 /// The codes of findings that are to be left out: those of `--ignore`, and with `--select` all but
-/// those that it names.
+/// those that it names, or else those of the notes on texts.
 pub(crate) fn ignored_in<'words>(
     alloc: Global,
     found: &ArgMatches<'words>,
@@ -20,13 +22,49 @@ pub(crate) fn ignored_in<'words>(
     ensures known { IfOk result (λ _. are_known (found_rows found.now) ≡ true) }
     ensures unknown { IfRefused result (are_known (found_rows found.now) ≡ false) }
 {
-    let mut ignored = known_codes_in(alloc, found, "ignore")?;
-    let selected = known_codes_in(alloc, found, "select")?;
+    let mut ignored = named_in(alloc, found, "ignore")?;
+    let selected = named_in(alloc, found, "select")?;
     push_unselected(&mut ignored, &selected)?;
     Ok(ignored)
 }
 
-/// The codes of an option, if findings have them.
+/// The codes that an option names, if findings have them: one by one, or by the name of a group.
+fn named_in<'words>(
+    alloc: Global,
+    found: &ArgMatches<'words>,
+    name: &str,
+) -> Result<Vec<&'words str>, WordsError>
+    ensures values { IfOk result (λ values. texts values.items ≡ named_in name.now (found_rows found.now)) }
+    ensures known { IfOk result (λ _. list_all is_code (codes_in name.now (found_rows found.now)) ≡ true) }
+    ensures unknown { IfRefused result (list_all is_code (codes_in name.now (found_rows found.now)) ≡ false) }
+{
+    let names = known_codes_in(alloc, found, name)?;
+    Ok(codes_of(alloc, &names)?)
+}
+
+/// The codes that these names stand for.
+fn codes_of<'words>(alloc: Global, names: &[&'words str]) -> Result<Vec<&'words str>, AllocError>
+    ensures { IfOk result (λ codes. texts codes.items ≡ flat_map codes_named (texts names.now)) }
+{
+    let mut codes = Vec::new(alloc);
+    for name in names {
+        push_named(name, &mut codes)?;
+    }
+    Ok(codes)
+}
+
+/// Appends the codes that a name stands for.
+fn push_named<'words>(name: &'words str, codes: &mut Vec<&'words str>) -> Result<(), AllocError>
+    ensures { OnOk result (texts codes.new.items ≡ texts codes.old.items ++ codes_named name.now) }
+{
+    if name == "texts" {
+        codes.extend_from_slice(text_codes())
+    } else {
+        Ok(codes.push(name)?)
+    }
+}
+
+/// The names of an option, if findings have these codes.
 fn known_codes_in<'words>(
     alloc: Global,
     found: &ArgMatches<'words>,
@@ -83,7 +121,8 @@ pub(crate) fn code_list<'words>(
     value.split(',').collect(alloc)
 }
 
-/// Appends the codes that aren't among those that are selected, if any are.
+/// Appends the codes that aren't among those that are selected, if any are, or else those of the
+/// notes on texts.
 fn push_unselected<'words>(
     ignored: &mut Vec<&'words str>,
     selected: &[&str],
@@ -94,8 +133,15 @@ fn push_unselected<'words>(
     if is_any(selected) {
         push_others(ignored, selected, all_codes())
     } else {
-        Ok(())
+        push_text_codes(ignored)
     }
+}
+
+/// Appends the codes of the notes on texts.
+fn push_text_codes(codes: &mut Vec<&str>) -> Result<(), AllocError>
+    ensures { OnOk result (texts codes.new.items ≡ texts codes.old.items ++ text_codes) }
+{
+    codes.extend_from_slice(text_codes())
 }
 
 /// The codes that findings have.

@@ -2,10 +2,10 @@
 ghost use Rattle.std.specs.Prelude.{◌≡◌, codes, is_some, option_map};
 ghost use Rattle.clap.specs.Words.{first_of};
 ghost use Rattle.ftl_arguments.specs.CommandView.{explained, explained_with, found_rows};
-ghost use Rattle.ftl_arguments.specs.Linting.{asks_explanation, explained_in, is_code};
+ghost use Rattle.ftl_arguments.specs.Linting.{asks_explanation, explained_in, is_finding_code};
 
-use crate::explanations::{Explanation, part_1, part_2, part_3, part_4, part_5, part_6, part_7};
-use crate::linting::is_code;
+use crate::explanations::text_of;
+use crate::linting::is_finding_code;
 use clap::ArgMatches;
 
 /// The explanation that the command-line arguments ask for, if they name a code of findings.
@@ -40,35 +40,13 @@ fn explanation_in(found: &ArgMatches<'_>) -> Option<&'static str>
 
 /// That of a code, if findings have it.
 fn explanation_of(code: &str) -> Option<&'static str>
-    ensures { is_some result ≡ is_code code.now }
+    ensures { is_some result ≡ is_finding_code code.now }
 {
-    if is_code(code) {
+    if is_finding_code(code) {
         Some(text_of(code))
     } else {
         None
     }
-}
-
-/// The text on a code, which is empty if it is none.
-fn text_of(code: &str) -> &'static str {
-    text_in(part_1(), code)
-        .or_else(|| text_in(part_2(), code))
-        .or_else(|| text_in(part_3(), code))
-        .or_else(|| text_in(part_4(), code))
-        .or_else(|| text_in(part_5(), code))
-        .or_else(|| text_in(part_6(), code))
-        .or_else(|| text_in(part_7(), code))
-        .unwrap_or("")
-}
-
-/// That in one of the tables.
-fn text_in(explanations: &'static [Explanation], code: &str) -> Option<&'static str> {
-    for (known, text) in explanations {
-        if *known == code {
-            return Some(*text);
-        }
-    }
-    None
 }
 
 /// What is to be explained, a code or anything else.

@@ -2,7 +2,7 @@
 ghost use Rattle.std.specs.Prelude.{◌≡◌, ◌||◌, IfErr, IfOk, Some, None, codes, false, not, option_map, true};
 ghost use Rattle.std.specs.List.{list_all};
 ghost use Rattle.ftl_arguments.specs.Linting.{colours_in, colours_named, format_by, format_in, format_named, lint_in, report_format_in};
-ghost use Rattle.ftl_arguments.specs.Linting.{functions_in, has_what_it_counts, is_any, is_code, is_function_name, is_selecting, references_in};
+ghost use Rattle.ftl_arguments.specs.Linting.{functions_in, has_what_it_counts, is_any, is_code, is_finding_code, is_function_name, is_selecting, references_in};
 ghost use Rattle.ftl_arguments.specs.Found.{is_given};
 ghost use Rattle.fluent_grammar.specs.Words.{begins, is_callee_byte, is_capital};
 ghost use Rattle.ftl_arguments.specs.Meaning.{texts};
@@ -18,7 +18,7 @@ use lint_report::Format as ReportFormat;
 use std::alloc::Global;
 
 /// The codes that findings have.
-pub(crate) const CODES: [&str; 42] = [
+pub(crate) const CODES: [&str; 66] = [
     "syntax",
     "byte-order-mark",
     "duplicate-id",
@@ -43,6 +43,8 @@ pub(crate) const CODES: [&str; 42] = [
     "control-character",
     "zero-width",
     "unbalanced-direction",
+    "mixed-scripts",
+    "wrong-encoding",
     "unused-term",
     "missing-message",
     "missing-value",
@@ -57,6 +59,28 @@ pub(crate) const CODES: [&str; 42] = [
     "variant-lacks-variable",
     "plural-dropped",
     "term-as-text",
+    "broken-tag",
+    "unbalanced-element",
+    "unknown-element",
+    "missing-element",
+    "missing-l10n-name",
+    "unknown-l10n-name",
+    "broken-entity",
+    "long-access-key",
+    "long-key",
+    "changed-style",
+    "access-key-not-in-label",
+    "changed-url",
+    "changed-placeholder",
+    "changed-number",
+    "edge-space",
+    "double-space",
+    "final-punctuation",
+    "three-dots",
+    "unpaired-quote",
+    "straight-quote",
+    "empty-text",
+    "long-text",
     "missing-file",
     "missing-locale",
     "obsolete-file",
@@ -150,9 +174,16 @@ fn has_what_it_counts(found: &ArgMatches<'_>, references: &[&str]) -> bool
     !is_given(found, "counts") || matches!(references, [_, ..])
 }
 
-/// Whether findings have this code.
+/// Whether this is a code of findings, or the name of a group.
 pub(crate) fn is_code(name: &str) -> bool
     ensures { result ≡ is_code name.now }
+{
+    name == "texts" || is_finding_code(name)
+}
+
+/// Whether findings have this code.
+pub(crate) fn is_finding_code(name: &str) -> bool
+    ensures { result ≡ is_finding_code name.now }
 {
     CODES.contains(&name)
 }

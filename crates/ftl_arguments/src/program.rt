@@ -31,11 +31,17 @@ Codes:
   no-value, no-default, cyclic-reference, unknown-function, duplicate-attribute,
   duplicate-variant, invalid-escape, unknown-option, missing-category, placeable-in-literal,
   unknown-term-argument, unknown-term-variant, unknown-category, unused-category,
-  replacement-character, control-character, zero-width, unbalanced-direction, unused-term,
-  missing-message, missing-value, missing-attribute, obsolete-value, obsolete-attribute,
-  unknown-variable, missing-variable, unused-variable, obsolete-message, untranslated,
-  variant-lacks-variable, plural-dropped, term-as-text, missing-file, missing-locale,
-  obsolete-file, unused-ignore
+  replacement-character, control-character, zero-width, unbalanced-direction, mixed-scripts,
+  wrong-encoding, unused-term, missing-message, missing-value, missing-attribute, obsolete-value,
+  obsolete-attribute, unknown-variable, missing-variable, unused-variable, obsolete-message,
+  untranslated, variant-lacks-variable, plural-dropped, term-as-text, broken-tag,
+  unbalanced-element, unknown-element, missing-element, missing-l10n-name, unknown-l10n-name,
+  broken-entity, long-access-key, long-key, changed-style, access-key-not-in-label,
+  missing-file, missing-locale, obsolete-file, unused-ignore
+
+Codes that are only reported if they are selected, one by one or all as 'texts':
+  changed-url, changed-placeholder, changed-number, edge-space, double-space, final-punctuation,
+  three-dots, unpaired-quote, straight-quote, empty-text, long-text
 
 Example: ftl lint --reference locales/en locales/de";
 

@@ -1,6 +1,8 @@
 //! What `clap` lets pass, and the program doesn't.
 
-use crate::linting::{CODES, colours_named, format_named, is_code, is_function_name};
+use crate::linting::{
+    CODES, colours_named, format_named, is_code, is_finding_code, is_function_name,
+};
 use crate::projects::{names_project, table_format_named};
 use clap::ArgMatches;
 use std::alloc::{AllocError, Global};
@@ -188,7 +190,7 @@ fn refused_name<'words>(found: &ArgMatches<'words>) -> Option<Refused<'words>> {
 /// A code that is to be explained, and that no finding has.
 fn refused_explanation<'words>(found: &ArgMatches<'words>) -> Option<Refused<'words>> {
     let code = found.get_str("explain")?;
-    if is_code(code) {
+    if is_finding_code(code) {
         None
     } else {
         Some(Refused::Code {

@@ -3,10 +3,10 @@ use Rattle.std.proofs.Common.{◌≡◌, ◌∙◌, List, [], ◌∷◌, ◌++�
 use Rattle.lint_findings.specs.Findings.{FileFinding, findings_in}
 use Rattle.lint_findings.specs.Finding.{Severity, error, warning, note}
 use Rattle.lint_findings.specs.Report.{is_shown, report_text, shown}
-use Rattle.lint_finding.specs.View.{file_view, finding_view}
+use Rattle.lint_findings.specs.View.{file_view, finding_view}
 use Rattle.std.specs.Global.{Global, Vec}
-use Rattle.lint_finding.specs.declared.records.File.{File}
-use Rattle.lint_finding.specs.declared.records.Finding.{Finding}
+use Rattle.lint_findings.specs.declared.records.File.{File}
+use Rattle.lint_findings.specs.declared.records.Finding.{Finding}
 use Rattle.lint_report.specs.Formats.{report_output}
 use Rattle.lint_report.specs.View.{shown_width}
 use Rattle.lint_report.specs.declared.reports.Format.TheVariants as format

@@ -5,7 +5,7 @@ ghost use Rattle.std.specs.Prelude.{◌↔◌, ◌-◌, IfOk, IfSome, IsTrue, On
 ghost use Rattle.ftl_files.specs.Depth.{IsDeepAt, IsDeepOn, IsDepthReport, IsShallow, NestsTooDeep};
 
 use fluent_parser::{StackBudget, TooDeep, parse_unless_too_deep};
-use lint_finding::SourcePosition;
+use lint_findings::SourcePosition;
 use memchr::memchr2_iter;
 use std::alloc::{AllocError, Global};
 

@@ -1,13 +1,13 @@
 //! The files that paths stand for.
 ghost use Rattle.std.specs.Prelude.{◌≡◌, [], IfOk, OnOk, map, string_bytes};
-ghost use Rattle.lint_endless.specs.HasNames.{texts};
+ghost use Rattle.lint_nodes.specs.HasNames.{texts};
 ghost use Rattle.lint_findings.specs.Comparison.{union};
 ghost use Rattle.ftl_files.specs.Listed.{listed_after, nothing_listed};
 ghost use Rattle.ftl_files.specs.Listing.{listed_names};
 ghost use Rattle.ftl_files.specs.TidyView.{AreListedOn, IsListedOn, listed_view};
 
 use crate::folder::{FileError, Folder, Listing};
-use lint_endless::Names;
+use lint_nodes::Names;
 use std::alloc::{AllocError, Global};
 
 /// The files that paths stand for.

@@ -1,6 +1,6 @@
 //! Sources that are read, one after the other.
 ghost use Rattle.std.specs.Prelude.{◌≡◌, IfOk, OnOk, map, string_bytes};
-ghost use Rattle.lint_finding.specs.View.{file_view};
+ghost use Rattle.lint_findings.specs.View.{file_view};
 ghost use Rattle.ftl_files.specs.Reading.{ReadsBytes, nothing_read, read_of_listed};
 ghost use Rattle.ftl_files.specs.TidyView.{AreReadOn, IsAddedTo, ReadsOneOn, ReadsThroughOn, after_read_failure, after_refusal, after_source, listed_view, read_view};
 
@@ -10,7 +10,7 @@ use crate::folder::Folder;
 use crate::listed::{Listed, each_once, list_paths};
 use crate::reported::Reported;
 use crate::tidying::{read_source, why_of};
-use lint_finding::File;
+use lint_findings::File;
 use std::alloc::{AllocError, Global};
 
 /// A file that was read.

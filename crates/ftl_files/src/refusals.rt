@@ -5,7 +5,7 @@ ghost use Rattle.fluent_grammar.specs.Tiling as tiling;
 ghost use Rattle.fluent_parsed.specs.ErrorView.{error_told, error_view};
 ghost use Rattle.fluent_tidy.specs.Reasons.{IsReason};
 ghost use Rattle.fluent_tidy.specs.TidyText.{plain};
-ghost use Rattle.lint_finding.specs.View.{finding_view};
+ghost use Rattle.lint_findings.specs.View.{finding_view};
 ghost use Rattle.ftl_files.specs.TidyView.{end_view};
 ghost use Rattle.ftl_files.specs.Tidying.{HasItsErrors, IsIdOf, IsRefusedFor, IsReport, IsReturn, IsShapeAt, damage_report, end_for, finding_report, findings_report};
 
@@ -14,7 +14,7 @@ use crate::ends::FileEnd;
 use fluent_parser::ParserError;
 use fluent_tidy::{TidyError, with_line_feeds, without_mark};
 use lint_files::syntax_findings;
-use lint_finding::{File, FileFindings, Finding, Severity};
+use lint_findings::{File, FileFindings, Finding, Severity};
 use lint_report::{Format, report};
 use memchr::{memchr, memchr3};
 use std::alloc::{AllocError, Global};

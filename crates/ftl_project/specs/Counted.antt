@@ -4,8 +4,8 @@ use Rattle.fluent_lint.specs.Table.{both_counts, counts, no_counts}
 use Rattle.fluent_lint.specs.Translated.{translated_of}
 use Rattle.fluent_lint.specs.declared.original.Messages.{Messages}
 use Rattle.fluent_lint.specs.declared.table.Counts.{Counts}
-use Rattle.lint_finding.specs.View.{findings_view}
-use Rattle.lint_finding.specs.declared.records.FileFindings.{FileFindings}
+use Rattle.lint_findings.specs.View.{findings_view}
+use Rattle.lint_findings.specs.declared.records.FileFindings.{FileFindings}
 use Rattle.ftl_project.specs.declared.language.Linted.{Linted}
 use Rattle.ftl_project.specs.declared.language.LintedFile.{LintedFile}
 

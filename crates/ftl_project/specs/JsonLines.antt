@@ -1,10 +1,10 @@
 -- Findings of a project as lines of JSON, each with its language.
 use Rattle.std.specs.Prelude.{Bool, List, [], Option, option_copied, codes, if◌then◌else◌}
 use Rattle.std.specs.List.{flat_map}
-use Rattle.lint_finding.specs.View.{file_findings_view, findings_view}
-use Rattle.lint_finding.specs.declared.records.File.{File}
-use Rattle.lint_finding.specs.declared.records.FileFindings.{FileFindings}
-use Rattle.lint_finding.specs.declared.records.Finding.{Finding}
+use Rattle.lint_findings.specs.View.{file_findings_view, findings_view}
+use Rattle.lint_findings.specs.declared.records.File.{File}
+use Rattle.lint_findings.specs.declared.records.FileFindings.{FileFindings}
+use Rattle.lint_findings.specs.declared.records.Finding.{Finding}
 use Rattle.lint_report.specs.View.{in_file}
 use denote.Ref.{Bor}
 use Rattle.serde_json.specs.Written.{compact_text}

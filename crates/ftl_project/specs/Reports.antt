@@ -4,7 +4,7 @@ use Rattle.std.specs.List.{flat_map, list_any}
 use Rattle.fluent_grammar.specs.Words.{Text}
 use Rattle.fluent_lint.specs.Totals.{totals_line}
 use Rattle.fluent_lint.specs.declared.reports.Output.{Output}
-use Rattle.lint_finding.specs.View.{findings_view}
+use Rattle.lint_findings.specs.View.{findings_view}
 use Rattle.lint_findings.specs.Findings.{FileFinding}
 use Rattle.lint_findings.specs.Output as out
 use Rattle.lint_findings.specs.Output.{Format}

@@ -10,7 +10,7 @@ use crate::loading::{bytes_of, text_of, unreadable};
 use crate::report::Group;
 use crate::wrong::ProjectError;
 use ftl_files::{FileError, Folder, ReplaceError};
-use lint_finding::{File, FileFindings, Finding};
+use lint_findings::{File, FileFindings, Finding};
 use serde_json::{Map, Value};
 use std::alloc::{AllocError, Global};
 

@@ -7,7 +7,7 @@ use crate::planned::PlannedFile;
 use crate::project::Project;
 use fluent_lint::{Messages, counts_of, missing_file};
 use fluent_project::Action;
-use lint_finding::{File, FileFindings, Finding};
+use lint_findings::{File, FileFindings, Finding};
 use std::alloc::{AllocError, Global};
 
 /// What the filters of a project leave out of a language.

@@ -5,7 +5,7 @@ use crate::reference::ReferenceFile;
 use crate::sources::Sources;
 use fluent_lint::Original;
 use fluent_project::Source;
-use lint_finding::File;
+use lint_findings::File;
 use std::alloc::{AllocError, Global};
 
 /// Files of the reference, and the languages that are translated from exactly these.

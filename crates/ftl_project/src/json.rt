@@ -1,6 +1,6 @@
 //! Findings of a project as lines of JSON.
 ghost use Rattle.std.specs.Prelude.{◌≡◌, IfOk, OnOk, option_copied, string_bytes};
-ghost use Rattle.lint_finding.specs.View.{severity_view};
+ghost use Rattle.lint_findings.specs.View.{severity_view};
 ghost use Rattle.lint_findings.specs.JsonReport.{text_or_null};
 ghost use Rattle.lint_findings.specs.Report.{is_shown};
 ghost use Rattle.lint_report.specs.Changes.{Appends};
@@ -10,7 +10,7 @@ ghost use Rattle.serde_json.specs.Data.{number, string, unsigned};
 ghost use Rattle.serde_json.specs.View.{view};
 ghost use Rattle.ftl_project.specs.JsonLines.{file_json, lines_of, piece_of, project_data, text_of};
 
-use lint_finding::{File, FileFindings, Finding, Severity, SourcePosition};
+use lint_findings::{File, FileFindings, Finding, Severity, SourcePosition};
 use lint_report::severity_name;
 use serde_json::{Map, Value};
 use std::alloc::{AllocError, Global};

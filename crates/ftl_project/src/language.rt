@@ -17,7 +17,7 @@ use fluent_lint::{
 use fluent_parser::StackBudget;
 use fluent_plurals::LanguagePlurals;
 use fluent_project::{Place, line_of};
-use lint_finding::{File, FileFindings};
+use lint_findings::{File, FileFindings};
 use std::alloc::{AllocError, Global};
 
 /// What is found in a project.

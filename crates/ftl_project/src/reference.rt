@@ -2,7 +2,7 @@
 
 use crate::sources::Sources;
 use fluent_project::relative_path;
-use lint_finding::File;
+use lint_findings::File;
 use std::alloc::{AllocError, Global};
 
 /// A file of the reference.

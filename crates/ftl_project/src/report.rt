@@ -1,7 +1,7 @@
 //! The report on a project.
 ghost use Rattle.std.specs.Prelude.{◌≡◌, IfOk, OnOk, string_bytes};
 ghost use Rattle.std.specs.List.{flat_map, list_any};
-ghost use Rattle.lint_finding.specs.View.{findings_view};
+ghost use Rattle.lint_findings.specs.View.{findings_view};
 ghost use Rattle.lint_report.specs.Changes.{Appends};
 ghost use Rattle.ftl_project.specs.Reports.{IsReportBy, all_found, group_fails, group_lines, group_name, group_view, groups_view, has_failure, text_by, text_of_group};
 
@@ -11,7 +11,7 @@ use crate::language::{Linted, LintedFile};
 use crate::project::Project;
 use crate::reference::ReferenceFile;
 use fluent_lint::{Output, keep_reported, push_totals};
-use lint_finding::FileFindings;
+use lint_findings::FileFindings;
 use lint_report::{Format, has_failed, push_masked, report};
 use std::alloc::{AllocError, Global};
 

@@ -6,7 +6,7 @@ use crate::planned::Planned;
 use crate::reference::index_of;
 use fluent_project::relative_path;
 use ftl_files::{Folder, Found, Reported, SourceFile, read_each};
-use lint_finding::File;
+use lint_findings::File;
 use std::alloc::{AllocError, Global};
 
 /// What was read of the files of a project.

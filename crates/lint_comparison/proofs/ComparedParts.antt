@@ -7,11 +7,11 @@ use Rattle.lint_findings.specs.Comparison.{attribute_names, has_new, lost_variab
 use Rattle.fluent_grammar.specs.Tree as t
 use Rattle.fluent_grammar.specs.Words.{Text}
 use Rattle.lint_comparison.specs.Compared.{own_differences}
-use Rattle.lint_endless.specs.HasNames.{HasNames, texts}
+use Rattle.lint_nodes.specs.HasNames.{HasNames, texts}
 use Rattle.lint_comparison.specs.Lacks.{lacking}
 use Rattle.lint_comparison.specs.LackingAttributes.{names_of}
 use Rattle.lint_comparison.specs.declared.lack.Lack.TheVariants as of
-use Rattle.lint_endless.specs.declared.names.Names.{Names}
+use Rattle.lint_nodes.specs.declared.name_set.Names.{Names}
 use Rattle.lint_comparison.proofs.LackedNames.{both_added}
 
 module _ (a b d e : List c.Difference) where

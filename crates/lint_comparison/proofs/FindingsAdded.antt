@@ -2,10 +2,10 @@
 use Rattle.std.proofs.Common.{◌≡◌, ◌∙◌, ℕ, ◌+◌, ◌<◌, List, [], ◌∷◌, ◌++◌, length, map, take, get_or, ap, sym}
 use Rattle.std.proofs.lemmas.List.{map-append}
 use Rattle.fluent_ast.proofs.Copied.{map-take_more}
-use Rattle.lint_finding.specs.DifferenceView.{difference_view}
-use Rattle.lint_finding.specs.declared.difference.Difference.{Difference}
-use Rattle.lint_finding.specs.View.{finding_view}
-use Rattle.lint_finding.specs.declared.records.Finding.{Finding}
+use Rattle.lint_findings.specs.DifferenceView.{difference_view}
+use Rattle.lint_findings.specs.declared.difference.Difference.{Difference}
+use Rattle.lint_findings.specs.View.{finding_view}
+use Rattle.lint_findings.specs.declared.records.Finding.{Finding}
 use Rattle.lint_findings.specs.ComparisonFindings.{difference_finding}
 use Rattle.fluent_grammar.specs.Words.{Text}
 use Rattle.lint_comparison.proofs.LackedNames.{any_default}

@@ -1,15 +1,15 @@
 -- The hints of differences, by the names that are listed.
 use Rattle.std.proofs.Common.{◌≡◌, ◌∙◌, ℕ, ◌-◌, Bool, List, [], ◌∷◌, length, Option, None, String, refl, ap, sym, Bor}
 use Rattle.std.specs.Global.{Global}
-use Rattle.lint_finding.specs.DifferenceView.{difference_view, finding_at}
-use Rattle.lint_finding.specs.declared.difference.Difference as code
-use Rattle.lint_finding.specs.declared.difference.Difference.TheVariants as of
+use Rattle.lint_findings.specs.DifferenceView.{difference_view, finding_at}
+use Rattle.lint_findings.specs.declared.difference.Difference as code
+use Rattle.lint_findings.specs.declared.difference.Difference.TheVariants as of
 use Rattle.lint_findings.specs.Comparison.{Difference}
 use Rattle.lint_findings.specs.ComparisonFindings.{difference_at, difference_finding, difference_hint}
 use Rattle.lint_findings.specs.NearNames.{nearest_hint}
 use Rattle.fluent_grammar.specs.Words.{Text, dollar, is_among}
-use Rattle.lint_endless.specs.HasNames.{is_in_set}
-use Rattle.lint_endless.specs.declared.names.Names.{Names}
+use Rattle.lint_nodes.specs.HasNames.{is_in_set}
+use Rattle.lint_nodes.specs.declared.name_set.Names.{Names}
 use Rattle.lint_comparison.specs.Hinted.{IsHintBy, IsVariableHint}
 
 -- by the names of the set it is the hint by those that are listed

@@ -11,11 +11,11 @@ use Rattle.lint_findings.specs.Comparison as c
 use Rattle.lint_findings.specs.Comparison.{union, without}
 use Rattle.fluent_grammar.specs.Tree as t
 use Rattle.fluent_grammar.specs.Words.{Text, is_among}
-use Rattle.lint_endless.specs.HasNames.{texts}
+use Rattle.lint_nodes.specs.HasNames.{texts}
 use Rattle.lint_comparison.specs.Lacks.{lack_of, lacking}
 use Rattle.lint_comparison.specs.LackingAttributes.{names_of}
 use Rattle.lint_comparison.specs.declared.lack.Lack.{Lack}
-use Rattle.lint_endless.proofs.Unions.{among-append}
+use Rattle.lint_nodes.proofs.Unions.{among-append}
 
 -- two lists that were added, one after the other
 pub both_added : {A : Type 0} (a l n : List A) {b d : List A} → b ≡ a ++ l → d ≡ b ++ n → d ≡ a ++ (l ++ n)

@@ -14,3 +14,5 @@ pub mod NewNames
 pub mod VariantKeys
 pub mod LossesAdded
 pub mod PlainTexts
+pub mod TextsFound
+pub mod FoundPieces

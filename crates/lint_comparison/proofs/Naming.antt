@@ -2,8 +2,8 @@
 use Rattle.std.proofs.Common.{◌≡◌, ◌∙◌, List, [], ◌∷◌, ◌++◌, map, Option, Some, None, option_to_list, refl, ap, sym, append_assoc}
 use Rattle.std.specs.List.{flat_map}
 use Rattle.std.proofs.lemmas.List.Concat.{flat_map-append}
-use Rattle.lint_endless.proofs.NodeReferences.{by_references, of_elements}
-use Rattle.lint_endless.specs.HasReached.{node_references}
+use Rattle.lint_nodes.proofs.NodeReferences.{by_references, of_elements}
+use Rattle.lint_nodes.specs.HasReached.{node_references}
 use Rattle.lint_entries.specs.AttributePlaces.{uncommented}
 use Rattle.lint_findings.specs.Flaws.{Owner, attribute_patterns, entry_patterns}
 use Rattle.lint_findings.specs.Nodes.{Node, elements_nodes}

@@ -1,7 +1,7 @@
 -- Whether one of some names is none of the others, one name after the other.
 use Rattle.std.proofs.Common.{◌≡◌, ◌∙◌, ℕ, ◌+◌, ◌<◌, true, false, List, length, drop, get_or, refl, ap, add-one, drop-cons, Bor}
 use Rattle.fluent_grammar.specs.Words.{Text, is_among}
-use Rattle.lint_endless.specs.HasNames.{texts}
+use Rattle.lint_nodes.specs.HasNames.{texts}
 use Rattle.lint_findings.specs.Comparison.{has_new}
 
 module _ (names : List (Bor Text)) (i : ℕ) (default : Bor Text) (ys : List Text) where

@@ -2,9 +2,9 @@
 use Rattle.std.proofs.Common.{◌≡◌, ◌∙◌, Option, Some, None, option_map, refl, ap, sym, Bor}
 use Rattle.std.specs.Option.{unwrap_or}
 use Rattle.std.specs.List.{flat_map}
-use Rattle.lint_finding.specs.DifferenceView.{difference_view}
-use Rattle.lint_finding.specs.declared.difference.Difference.{Difference}
-use Rattle.lint_finding.specs.declared.difference.Difference.TheVariants as of
+use Rattle.lint_findings.specs.DifferenceView.{difference_view}
+use Rattle.lint_findings.specs.declared.difference.Difference.{Difference}
+use Rattle.lint_findings.specs.declared.difference.Difference.TheVariants as of
 use Rattle.lint_findings.specs.ComparisonFindings.{difference_at, first_attribute_at, first_variable_at}
 use Rattle.lint_findings.specs.Occurrences.{PatternPlace, entry_places, occurrences}
 use Rattle.fluent_grammar.specs.Words.{Text}

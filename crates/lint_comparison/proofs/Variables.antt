@@ -4,8 +4,8 @@ use Rattle.std.specs.List.{flat_map}
 use Rattle.fluent_grammar.specs.Words.{Text}
 use Rattle.fluent_ids.specs.Found.{message_in}
 use Rattle.fluent_meaning.specs.Ids.{Ids, Meaning, number_function, function, message, term, find}
-use Rattle.lint_endless.specs.HasNames.{HasNames}
-use Rattle.lint_endless.specs.declared.names.Names.{Names}
+use Rattle.lint_nodes.specs.HasNames.{HasNames}
+use Rattle.lint_nodes.specs.declared.name_set.Names.{Names}
 use Rattle.lint_findings.specs.Comparison.{message_of, messages_within, references_of, union, variable_of, variables_of}
 
 no_references : {F : Type 0} (meaning : Option (Meaning F)) → message_in meaning ≡ None → references_of meaning ≡ []

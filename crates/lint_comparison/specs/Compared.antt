@@ -4,10 +4,10 @@ use Rattle.lint_findings.specs.Comparison as c
 use Rattle.lint_findings.specs.Comparison.{attribute_names, has_new, untranslated, value_difference}
 use Rattle.fluent_grammar.specs.Tree as t
 use Rattle.fluent_grammar.specs.Words.{Text}
-use Rattle.lint_endless.specs.HasNames.{HasNames}
+use Rattle.lint_nodes.specs.HasNames.{HasNames}
 use Rattle.lint_comparison.specs.Lacks.{lacking}
 use Rattle.lint_comparison.specs.declared.lack.Lack.TheVariants as of
-use Rattle.lint_endless.specs.declared.names.Names.{Names}
+use Rattle.lint_nodes.specs.declared.name_set.Names.{Names}
 
 -- of the value and of the attributes of a message m, compared with o
 abbrev pub own_differences : t.Message → t.Message → List c.Difference

@@ -2,16 +2,16 @@
 use Rattle.std.specs.Prelude.{◌≡◌, ℕ, List, map, Option, Vec}
 use Rattle.std.specs.Global.{Global}
 use Rattle.std.specs.Option.{option_to_list}
-use Rattle.lint_finding.specs.View.{finding_view}
-use Rattle.lint_finding.specs.declared.records.Finding.{Finding}
+use Rattle.lint_findings.specs.View.{finding_view}
+use Rattle.lint_findings.specs.declared.records.Finding.{Finding}
 use Rattle.lint_findings.specs.Comparison.{Difference}
 use Rattle.lint_findings.specs.ComparisonFindings as c
 use Rattle.lint_findings.specs.Tiles.{entry_tile}
 use Rattle.fluent_grammar.specs.Tree as t
 use Rattle.fluent_grammar.specs.Words.{Text}
 use Rattle.fluent_meaning.specs.Ids.{Ids}
-use Rattle.lint_endless.specs.HasNames.{HasNames}
-use Rattle.lint_endless.specs.declared.names.Names.{Names}
+use Rattle.lint_nodes.specs.HasNames.{HasNames}
+use Rattle.lint_nodes.specs.declared.name_set.Names.{Names}
 
 -- the findings of how a message of a catalog differs from this reference, in this source
 abbrev pub AreFoundIn : Ids (Unit {0}) → Ids (Unit {0}) → Text → t.Message → Text → Vec Finding Global → Type 0

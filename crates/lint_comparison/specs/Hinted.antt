@@ -5,8 +5,8 @@ use Rattle.lint_findings.specs.Comparison.{Difference}
 use Rattle.lint_findings.specs.ComparisonFindings.{difference_hint}
 use Rattle.lint_findings.specs.NearNames.{nearest_hint}
 use Rattle.fluent_grammar.specs.Words.{Text, dollar}
-use Rattle.lint_endless.specs.HasNames.{HasNames, is_in_set}
-use Rattle.lint_endless.specs.declared.names.Names.{Names}
+use Rattle.lint_nodes.specs.HasNames.{HasNames, is_in_set}
+use Rattle.lint_nodes.specs.declared.name_set.Names.{Names}
 
 -- the hint of an unknown variable, by the names of the set
 abbrev pub IsVariableHint : Names → Text → Option (String Global) → Type 0

@@ -7,10 +7,10 @@ use Rattle.fluent_ast.specs.Borrowed.{attribute_of, elements_of, message_of}
 use Rattle.fluent_ast.specs.declared.Attribute.{Attribute}
 use Rattle.fluent_ast.specs.declared.Message.{Message}
 use Rattle.fluent_ast.specs.declared.Pattern.{Pattern}
-use Rattle.lint_finding.specs.DifferenceView.{difference_view}
-use Rattle.lint_finding.specs.declared.difference.Difference.{Difference}
+use Rattle.lint_findings.specs.DifferenceView.{difference_view}
+use Rattle.lint_findings.specs.declared.difference.Difference.{Difference}
 use Rattle.lint_entries.specs.AttributePlaces.{value_elements}
-use Rattle.lint_finding.specs.declared.records.Finding.{Finding}
+use Rattle.lint_findings.specs.declared.records.Finding.{Finding}
 use Rattle.lint_findings.specs.Comparison as c
 use Rattle.lint_findings.specs.Occurrences.{pattern_read}
 use Rattle.fluent_grammar.specs.Refusal.{got}
@@ -26,8 +26,8 @@ use Rattle.std.specs.List.{list_any}
 use Rattle.std.specs.Option.{option_to_list}
 use Rattle.lint_comparison.specs.Lacks.{Adds}
 use Rattle.lint_comparison.specs.Found.{AreFindingsBy, AreFoundIn}
-use Rattle.lint_endless.specs.HasNames.{HasNames}
-use Rattle.lint_endless.specs.declared.names.Names.{Names}
+use Rattle.lint_nodes.specs.HasNames.{HasNames}
+use Rattle.lint_nodes.specs.declared.name_set.Names.{Names}
 
 -- ---- by ids of a catalog and of its reference
 

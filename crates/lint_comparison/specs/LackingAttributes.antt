@@ -4,13 +4,13 @@ use Rattle.fluent_ast.specs.Borrowed.{attributes_of}
 use Rattle.fluent_ast.specs.declared.Attribute.{Attribute}
 use Rattle.std.specs.Prelude.{List, [], map, Vec}
 use Rattle.std.specs.Global.{Global}
-use Rattle.lint_finding.specs.declared.difference.Difference.{Difference}
+use Rattle.lint_findings.specs.declared.difference.Difference.{Difference}
 use Rattle.lint_findings.specs.Comparison.{union}
 use Rattle.fluent_grammar.specs.Tree as t
 use Rattle.fluent_grammar.specs.Words.{Text}
 use Rattle.lint_comparison.specs.Lacks.{Adds, AddsLacking, lacking}
 use Rattle.lint_comparison.specs.declared.lack.Lack.{Lack}
-use Rattle.lint_endless.specs.declared.names.Names.{Names}
+use Rattle.lint_nodes.specs.declared.name_set.Names.{Names}
 
 abbrev pub names_of : List t.Attribute → List Text
 names_of as' = map (λ (a : t.Attribute). a.id) as'

@@ -11,7 +11,7 @@ use Rattle.fluent_grammar.specs.Words.{Text}
 use Rattle.lint_comparison.specs.LossView.{AddsLosses, nodes_of}
 use Rattle.lint_comparison.specs.declared.lacking.Lacking.{Lacking}
 use Rattle.lint_comparison.specs.declared.loss.Loss.{Loss}
-use Rattle.lint_endless.specs.HasNames.{texts}
+use Rattle.lint_nodes.specs.HasNames.{texts}
 use Rattle.lint_findings.specs.Losses as l
 use Rattle.lint_nodes.specs.declared.nodes.Node.{Node}
 

@@ -2,15 +2,15 @@
 use Rattle.std.specs.Prelude.{◌≡◌, List, [], ◌∷◌, ◌++◌, map, Vec}
 use Rattle.std.specs.Global.{Global}
 use Rattle.fluent_ast.specs.Borrowed.{message_of}
-use Rattle.lint_finding.specs.DifferenceView.{difference_view}
-use Rattle.lint_finding.specs.declared.difference.Difference.{Difference}
+use Rattle.lint_findings.specs.DifferenceView.{difference_view}
+use Rattle.lint_findings.specs.declared.difference.Difference.{Difference}
 use Rattle.lint_findings.specs.Comparison as c
 use Rattle.lint_findings.specs.Comparison.{without}
 use Rattle.fluent_grammar.specs.Words.{Text}
-use Rattle.lint_endless.specs.HasNames.{HasNames}
+use Rattle.lint_nodes.specs.HasNames.{HasNames}
 use Rattle.lint_comparison.specs.declared.lack.Lack.{Lack}
 use Rattle.lint_comparison.specs.declared.lack.Lack.TheVariants as of
-use Rattle.lint_endless.specs.declared.names.Names.{Names}
+use Rattle.lint_nodes.specs.declared.name_set.Names.{Names}
 
 -- the difference that a name of a kind makes
 abbrev pub lack_of : Lack → Text → c.Difference

@@ -13,3 +13,4 @@ pub mod LossView
 pub mod LackingView
 pub mod WordView
 pub mod WrittenView
+pub mod TextsView

@@ -16,10 +16,10 @@ use Rattle.fluent_meaning.specs.Choice.{first_default}
 use Rattle.fluent_plurals.specs.declared.plurals.LanguagePlurals.{LanguagePlurals}
 use Rattle.lint_comparison.specs.declared.loss.Loss.{Loss}
 use Rattle.lint_comparison.specs.declared.loss.Loss.TheVariants as of
-use Rattle.lint_endless.specs.HasNames.{HasNames}
+use Rattle.lint_nodes.specs.HasNames.{HasNames}
 use Rattle.lint_entries.specs.Made.{Adds}
-use Rattle.lint_finding.specs.declared.records.Finding as code
-use Rattle.lint_endless.specs.declared.names.Names.{Names}
+use Rattle.lint_findings.specs.declared.records.Finding as code
+use Rattle.lint_nodes.specs.declared.name_set.Names.{Names}
 use Rattle.lint_findings.specs.Comparison.{union}
 use Rattle.lint_findings.specs.ComparisonFindings.{loss_findings}
 use Rattle.lint_findings.specs.Finding.{Finding, finding_at}

@@ -6,8 +6,8 @@ use Rattle.std.specs.Option.{option_to_list}
 use denote.Ref.{Bor}
 use Rattle.fluent_ast.specs.Borrowed.{entries_of}
 use Rattle.fluent_ast.specs.declared.Resource.{Resource}
-use Rattle.lint_endless.specs.HasNames.{texts}
-use Rattle.lint_endless.specs.HasReached.{node_references}
+use Rattle.lint_nodes.specs.HasNames.{texts}
+use Rattle.lint_nodes.specs.HasReached.{node_references}
 use Rattle.lint_comparison.specs.declared.referred.Referred.{Referred}
 use Rattle.lint_comparison.specs.declared.referred.Referred.TheVariants.{Functions, Terms}
 use Rattle.lint_entries.specs.AttributePlaces.{uncommented}

@@ -11,7 +11,7 @@ use Rattle.fluent_ast.specs.declared.PatternElement.{PatternElement}
 use Rattle.fluent_grammar.specs.Tree as t
 use Rattle.fluent_grammar.specs.Tree.{Elements}
 use Rattle.fluent_grammar.specs.Words.{Text}
-use Rattle.lint_endless.specs.HasNames.{texts}
+use Rattle.lint_nodes.specs.HasNames.{texts}
 use Rattle.lint_findings.specs.WrittenTexts.{elements_have, plain_texts}
 
 -- whether a value, if there is one, or an attribute has a word

@@ -10,7 +10,7 @@ use Rattle.fluent_ids.specs.IdsView.{ids_view}
 use Rattle.fluent_ids.specs.declared.ids.FluentIds.{FluentIds}
 use Rattle.lint_comparison.specs.LossView.{AddsLosses, nodes_of}
 use Rattle.lint_comparison.specs.declared.loss.Loss.{Loss}
-use Rattle.lint_endless.specs.HasNames.{texts}
+use Rattle.lint_nodes.specs.HasNames.{texts}
 use Rattle.lint_findings.specs.Losses as l
 use Rattle.lint_nodes.specs.NodeView.{node_view}
 use Rattle.lint_nodes.specs.declared.nodes.Node.{Node}

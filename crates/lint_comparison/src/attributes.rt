@@ -3,13 +3,13 @@
 
 ghost use Rattle.std.specs.Prelude.{IfOk, OnOk};
 ghost use Rattle.fluent_ast.specs.Borrowed.{attributes_of};
-ghost use Rattle.lint_endless.specs.HasNames.{HasNames};
+ghost use Rattle.lint_nodes.specs.HasNames.{HasNames};
 ghost use Rattle.lint_comparison.specs.LackingAttributes.{AddsLackingOf, AddsLackingNames, known_names};
 
 use crate::lack::Lack;
 use fluent_ast::Attribute;
-use lint_endless::Names;
-use lint_finding::Difference;
+use lint_findings::Difference;
+use lint_nodes::Names;
 use std::alloc::{AllocError, Global};
 
 /// Adds the differences that those attributes make whose names are none of the others.

@@ -4,7 +4,7 @@
 ghost use Rattle.std.specs.Prelude.{IfOk, OnOk};
 ghost use Rattle.fluent_ast.specs.Borrowed.{message_of};
 ghost use Rattle.lint_comparison.specs.Compared.{IsNewAmong, own_differences};
-ghost use Rattle.lint_endless.specs.HasNames.{texts};
+ghost use Rattle.lint_nodes.specs.HasNames.{texts};
 ghost use Rattle.lint_comparison.specs.InCode.{AddsVariablesBy, AreDifferencesOf, AreVariablesOf, differences_by, message_differences_by, untranslated_by, values_difference, variables_between};
 ghost use Rattle.lint_comparison.specs.Lacks.{Adds};
 
@@ -13,8 +13,8 @@ use crate::lack::Lack;
 use crate::same::is_same_message;
 use fluent_ast::{Message, Pattern};
 use fluent_ids::GetEntry;
-use lint_endless::{Names, variables_of};
-use lint_finding::{CatalogIds, Difference};
+use lint_findings::{CatalogIds, Difference};
+use lint_nodes::{Names, variables_of};
 use std::alloc::{AllocError, Global};
 
 /// How an id of a catalog differs from that of the reference.

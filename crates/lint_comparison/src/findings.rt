@@ -6,7 +6,7 @@ ghost use Rattle.fluent_ast.specs.Borrowed.{message_of};
 ghost use Rattle.lint_comparison.specs.Found.{AreFindingsBy, IsFindingBy, IsMissingIn};
 ghost use Rattle.lint_comparison.specs.InCode.{AreFoundOf, AreMessageFindings};
 ghost use Rattle.lint_comparison.specs.HasPlaces.{HasPlacesOf};
-ghost use Rattle.lint_finding.specs.DifferenceView.{difference_view};
+ghost use Rattle.lint_findings.specs.DifferenceView.{difference_view};
 ghost use Rattle.lint_entries.specs.AttributePlaces.{IsEntryAt};
 ghost use Rattle.lint_findings.specs.Occurrences.{entry_places};
 ghost use Rattle.fluent_grammar.specs.Tree as t;
@@ -16,8 +16,8 @@ use crate::compared::compare;
 use crate::hints::difference_hint;
 use crate::places::Places;
 use fluent_ast::Message;
-use lint_endless::Names;
-use lint_finding::{CatalogIds, Difference, Finding};
+use lint_findings::{CatalogIds, Difference, Finding};
+use lint_nodes::Names;
 use std::alloc::{AllocError, Global};
 
 /// How a message of a catalog differs from that of the reference, as findings. The text is the

@@ -3,12 +3,12 @@
 
 ghost use Rattle.std.specs.Prelude.{IfOk};
 ghost use Rattle.lint_comparison.specs.Hinted.{IsHintBy, IsVariableHint};
-ghost use Rattle.lint_endless.specs.HasNames.{is_in_set};
-ghost use Rattle.lint_finding.specs.DifferenceView.{difference_view};
+ghost use Rattle.lint_nodes.specs.HasNames.{is_in_set};
+ghost use Rattle.lint_findings.specs.DifferenceView.{difference_view};
 
-use lint_endless::Names;
-use lint_finding::Difference;
+use lint_findings::Difference;
 use lint_flaws::{KnownNames, near_hint};
+use lint_nodes::Names;
 use std::alloc::{AllocError, Global};
 
 /// The hint of a difference, if the message of the reference is shown with these variables.

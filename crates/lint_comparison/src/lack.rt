@@ -3,13 +3,13 @@
 
 ghost use Rattle.std.specs.Prelude.{◌≡◌, OnOk};
 ghost use Rattle.lint_comparison.specs.Lacks.{AddsIfLacking, AddsLacking, lack_of};
-ghost use Rattle.lint_endless.specs.HasNames.{texts};
-ghost use Rattle.lint_finding.specs.DifferenceView.{difference_view};
+ghost use Rattle.lint_nodes.specs.HasNames.{texts};
+ghost use Rattle.lint_findings.specs.DifferenceView.{difference_view};
 
 use crate::shown::message_shows;
 use fluent_ast::Message;
-use lint_endless::Names;
-use lint_finding::Difference;
+use lint_findings::Difference;
+use lint_nodes::Names;
 use std::alloc::AllocError;
 
 /// A kind of names that one of two messages lacks.

@@ -17,9 +17,8 @@ use crate::counted::{are_counting, counted};
 use crate::loss::Loss;
 use crate::shown::pattern_shows;
 use fluent_ast::{InlineExpression, Pattern, Variant, VariantKey};
-use lint_endless::Names;
 use lint_flaws::first_quoted;
-use lint_nodes::{Node, key_text, pattern_nodes};
+use lint_nodes::{Names, Node, key_text, pattern_nodes};
 use std::alloc::{AllocError, Global};
 
 /// Adds the variables that variants lack in the selects among some nodes, if the reference has

@@ -2,15 +2,17 @@
 //!
 //! [`Reference`] compares the messages of the catalog with those of the reference: how each differs
 //! from that with the same id, with the place of each difference, and an unknown variable with the
-//! known one that may be meant; and what it loses: a variable in one variant, plural variants, and
-//! terms. [`missing_findings`] lists the messages of the reference that the catalog hasn't, and
-//! [`called_functions`] the functions that the reference calls: these are known. [`referred_terms`]
-//! lists the terms that a catalog refers to. `Findings.antt`, `ComparisonFindings.antt` and
-//! `Losses.antt` of `lint_findings` say which findings they are and how they go together;
-//! `docs/reference/lint.md` has the rules in plain words.
+//! known one that may be meant; what it loses: a variable in one variant, plural variants, and
+//! terms; and what `lint_texts` says of its texts, each at its place. [`missing_findings`] lists
+//! the messages of the reference that the catalog hasn't, and [`called_functions`] the functions
+//! that the reference calls: these are known. [`referred_terms`] lists the terms that a catalog
+//! refers to. `Findings.antt`, `ComparisonFindings.antt`, `Losses.antt` and `Pairs.antt` of
+//! `lint_findings` say which findings they are and how they go together; `docs/reference/lint.md`
+//! has the rules in plain words.
 //!
 //! The variables of a message are its own and those of all messages that it refers to, at any
-//! remove: `lint_endless` lists them. Only a message that differs is gone through for places.
+//! remove: `lint_nodes` lists them. Only a message of which something is found is gone through
+//! for places.
 #![tactic(auto)]
 
 mod always;
@@ -31,6 +33,7 @@ mod reference;
 mod referred;
 mod same;
 mod shown;
+mod texts;
 mod words;
 mod written;
 

@@ -3,13 +3,13 @@
 
 ghost use Rattle.std.specs.Prelude.{◌≡◌, ◌++◌, IfOk, codes, string_bytes};
 ghost use Rattle.lint_comparison.specs.LossView.{loss_view};
-ghost use Rattle.lint_finding.specs.View.{finding_view, remark_view};
+ghost use Rattle.lint_findings.specs.View.{finding_view, remark_view};
 ghost use Rattle.lint_findings.specs.Finding.{finding_at};
 ghost use Rattle.lint_findings.specs.Losses as l;
 ghost use Rattle.lint_findings.specs.Losses.{loss_remark};
 ghost use Rattle.lint_findings.specs.SyntaxErrors.{in_backticks};
 
-use lint_finding::{Finding, Remark};
+use lint_findings::{Finding, Remark};
 use std::alloc::{AllocError, Global};
 
 /// What a message loses of that of the reference.

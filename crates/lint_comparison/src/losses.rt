@@ -14,7 +14,7 @@ use crate::written::push_written;
 use fluent_ast::{Message, Pattern};
 use fluent_ids::GetEntry;
 use fluent_plurals::LanguagePlurals;
-use lint_finding::{CatalogIds, Finding};
+use lint_findings::{CatalogIds, Finding};
 use lint_flaws::{push_attributes, push_nodes};
 use lint_nodes::Node;
 use std::alloc::{AllocError, Global};

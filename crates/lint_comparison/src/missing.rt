@@ -3,7 +3,7 @@
 
 ghost use Rattle.std.specs.Prelude.{◌≡◌, IfOk, OnOk, map};
 ghost use Rattle.lint_entries.specs.Made.{Adds};
-ghost use Rattle.lint_finding.specs.View.{finding_view};
+ghost use Rattle.lint_findings.specs.View.{finding_view};
 ghost use Rattle.fluent_ids.specs.IdsView.{ids_view};
 ghost use Rattle.lint_comparison.specs.Missing.{missing_in, missing_of_part};
 ghost use Rattle.lint_entries.specs.Kept.{parts};
@@ -13,7 +13,7 @@ ghost use Rattle.lint_flaws.specs.Said.{known};
 use crate::missing_finding;
 use fluent_ast::Entry;
 use lint_entries::{Tile, push_found};
-use lint_finding::{CatalogIds, Finding};
+use lint_findings::{CatalogIds, Finding};
 use std::alloc::{AllocError, Global};
 
 /// The findings of the messages of a source of the reference that a catalog with these ids hasn't.

@@ -5,7 +5,7 @@ ghost use Rattle.std.specs.Prelude.{◌≡◌, [], IfOk, OnOk, map, option_map};
 ghost use Rattle.fluent_ast.specs.Borrowed.{attributes_of, elements_of, message_of};
 ghost use Rattle.lint_comparison.specs.HasPlaces.{GetsOccurrences, GetsPatternPlaces, GetsPlaces, GetsVariables, HasPlacesOf, IsPlaceOf, variable_at};
 ghost use Rattle.lint_comparison.specs.InCode.{LeavesOfValue};
-ghost use Rattle.lint_finding.specs.DifferenceView.{difference_view};
+ghost use Rattle.lint_findings.specs.DifferenceView.{difference_view};
 ghost use Rattle.lint_entries.specs.AttributePlaces.{AreAttributes, IsEntryAt, places_of_attributes, value_elements};
 ghost use Rattle.lint_findings.specs.Occurrences.{entry_places, pattern_read};
 ghost use Rattle.fluent_grammar.specs.Refusal.{got};
@@ -16,7 +16,7 @@ ghost use Rattle.lint_nodes.specs.OccurrenceView.{IsPatternAt, occurrence_view};
 use crate::first_places::FirstPlaces;
 use fluent_ast::{Attribute, InlineExpression, Message, Pattern};
 use lint_entries::text::{after_equals, skip_blank_block, skip_spaces};
-use lint_finding::Difference;
+use lint_findings::Difference;
 use lint_nodes::{Node, Occurrence, empty_pattern_rest, pattern_occurrences, skip};
 use std::alloc::{AllocError, Global};
 

@@ -10,9 +10,10 @@ ghost use Rattle.lint_entries.specs.Made.{Adds};
 
 use crate::findings::difference_findings;
 use crate::losses::push_loss_findings;
+use crate::texts::push_text_findings;
 use fluent_ast::{Entry, Message};
 use fluent_plurals::LanguagePlurals;
-use lint_finding::{CatalogIds, Finding};
+use lint_findings::{CatalogIds, Finding};
 use std::alloc::{AllocError, Global};
 
 /// What the ids of a catalog stand for, and what those of its reference do.
@@ -24,7 +25,7 @@ pub struct Reference<'c, 'r, 's> {
     pub plurals: Option<LanguagePlurals>,
 }
 
-impl Reference<'_, '_, '_> {
+impl<'s> Reference<'_, '_, 's> {
     /// Adds how an entry of a source of the catalog differs from the reference. The text is the
     /// source from the entry on.
     ///
@@ -34,7 +35,7 @@ impl Reference<'_, '_, '_> {
         &self,
         alloc: Global,
         source: &str,
-        entry: &Entry<&str>,
+        entry: &Entry<&'s str>,
         text: &[u8],
         findings: &mut Vec<Finding>,
     ) -> Result<(), AllocError>
@@ -51,7 +52,7 @@ impl Reference<'_, '_, '_> {
     }
 
     /// Adds how a message of a source of the catalog differs from that of the reference, and what
-    /// it loses of it. The text is the source from the message on.
+    /// it loses of it, and what is said of its texts. The text is the source from the message on.
     ///
     /// # Errors
     /// [`AllocError`] if memory runs out; some may be added then.
@@ -59,7 +60,7 @@ impl Reference<'_, '_, '_> {
         &self,
         alloc: Global,
         source: &str,
-        message: &Message<&str>,
+        message: &Message<&'s str>,
         text: &[u8],
         findings: &mut Vec<Finding>,
     ) -> Result<(), AllocError>
@@ -84,6 +85,7 @@ impl Reference<'_, '_, '_> {
             message,
             text,
             findings,
-        )
+        )?;
+        push_text_findings(alloc, self.reference, source, message, text, findings)
     }
 }

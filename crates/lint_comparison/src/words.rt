@@ -4,7 +4,7 @@
 ghost use Rattle.std.specs.Prelude.{◌≡◌, ◌&&◌, IfOk, OnOk, not};
 ghost use Rattle.fluent_ast.specs.Borrowed.{attributes_of, elements_of, expression_of, message_of, variants_of};
 ghost use Rattle.lint_comparison.specs.WordView.{AddsTexts, attributes_have, element_texts, elements_in, value_has};
-ghost use Rattle.lint_endless.specs.HasNames.{texts};
+ghost use Rattle.lint_nodes.specs.HasNames.{texts};
 ghost use Rattle.lint_findings.specs.Losses as l;
 ghost use Rattle.lint_findings.specs.WrittenTexts as w;
 

@@ -11,7 +11,7 @@ use crate::loss::Loss;
 use crate::words::{message_has, plain_texts};
 use fluent_ast::{InlineExpression, Message};
 use fluent_ids::GetEntry;
-use lint_finding::CatalogIds;
+use lint_findings::CatalogIds;
 use lint_nodes::Node;
 use std::alloc::{AllocError, Global};
 

@@ -12,7 +12,7 @@ use Rattle.lint_findings.specs.SyntaxErrors.{in_backticks}
 use Rattle.lint_findings.specs.FlawHints.{is_endless, never_ends, endless_hint, goes_on_text}
 use Rattle.lint_findings.specs.Nodes.{Node, expression, repeated_key, is_literal, elements_nodes, expression_nodes, variants_nodes, inline_nodes, maybe_nodes, arguments_nodes, inlines_nodes, nameds_nodes}
 use Rattle.lint_findings.specs.References.{reference_patterns, elements_references, expression_references, variants_references, inline_references, maybe_references, arguments_references, inlines_references, nameds_references}
-use Rattle.lint_endless.specs.Marks.{is_entered}
+use Rattle.lint_nodes.specs.Marks.{is_entered}
 use Rattle.lint_entries.specs.FirstEndless.{first_or, entered, first_entered}
 
 first_assoc : (a b c : Option Text) → first_or (first_or a b) c ≡ first_or a (first_or b c)

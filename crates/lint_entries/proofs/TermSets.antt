@@ -5,7 +5,7 @@ use Rattle.std.specs.Str.{bytes_eq}
 use Rattle.std.proofs.lemmas.List.{map-append, take_more}
 use Rattle.std.proofs.lemmas.List.Folds.{list_any-append}
 use Rattle.fluent_grammar.specs.Words.{Text, is_among}
-use Rattle.lint_endless.specs.HasNames.{texts}
+use Rattle.lint_nodes.specs.HasNames.{texts}
 use Rattle.lint_entries.specs.Terms.{AreTermsOf}
 use Rattle.lint_entries.specs.declared.terms.ReferredTerms.{ReferredTerms}
 

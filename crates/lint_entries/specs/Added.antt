@@ -1,17 +1,19 @@
 -- What each call adds to the findings.
-use Rattle.std.specs.Prelude.{◌≡◌, ◌-◌, List, [], length, map, take, Option, Vec}
+use Rattle.std.specs.Prelude.{◌≡◌, ◌-◌, List, [], ◌++◌, length, map, take, Option, Vec}
 use Rattle.std.specs.Global.{Global}
 use denote.Ref.{Bor}
 use Rattle.fluent_ast.specs.Borrowed.{attributes_of, elements_of}
 use Rattle.fluent_ast.specs.declared.Attribute.{Attribute}
 use Rattle.fluent_ast.specs.declared.Pattern.{Pattern}
-use Rattle.lint_finding.specs.declared.records.Finding.{Finding}
-use Rattle.lint_finding.specs.View.{remark_view}
-use Rattle.lint_finding.specs.declared.remark.Remark.{Remark}
+use Rattle.lint_findings.specs.declared.records.Finding.{Finding}
+use Rattle.lint_findings.specs.View.{remark_view}
+use Rattle.lint_findings.specs.declared.remark.Remark.{Remark}
+use Rattle.lint_findings.specs.Encodings.{wrong_encodings}
 use Rattle.lint_findings.specs.EntryFindings.{finding_in}
 use Rattle.lint_findings.specs.Finding as f
 use Rattle.lint_findings.specs.Letters.{letters}
 use Rattle.lint_findings.specs.Occurrences.{pattern_read}
+use Rattle.lint_findings.specs.Scripts.{mixed_words}
 use Rattle.fluent_grammar.specs.Refusal.{got}
 use Rattle.fluent_grammar.specs.Tree.{Elements}
 use Rattle.fluent_grammar.specs.Words.{Text}
@@ -40,7 +42,9 @@ AddsPattern catalog name s pattern old new = Adds old new (pattern_found catalog
 -- those of the characters that stand before a rest, of a pattern whose owner is that of this place
 abbrev pub AddsLetters : EntryPoint → Text → Text → Vec Finding Global → Vec Finding Global → Type 0
 AddsLetters name s rest old new =
-    Adds old new (map (finding_in name.source.now (label_text name.label) s) (letters (take (length s - length rest) s)))
+    let written = take (length s - length rest) s in
+    Adds old new (map (finding_in name.source.now (label_text name.label) s)
+    (letters written ++ (mixed_words written ++ wrong_encodings written)))
 
 -- those of a value, which may be none
 abbrev pub AddsValue : Catalog → EntryPoint → Text → Option Elements → Vec Finding Global → Vec Finding Global → Type 0

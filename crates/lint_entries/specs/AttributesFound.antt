@@ -6,7 +6,7 @@ use Rattle.fluent_grammar.specs.Words.{Text, is_among}
 use Rattle.fluent_grammar.specs.Tree as t
 use Rattle.lint_findings.specs.EntryFindings.{taken_remark}
 use Rattle.lint_findings.specs.Finding.{Finding}
-use Rattle.lint_finding.specs.declared.records.Finding as code
+use Rattle.lint_findings.specs.declared.records.Finding as code
 use Rattle.fluent_meaning.specs.Fallback.{with_attribute}
 use Rattle.lint_entries.specs.CatalogView.{ids_in, reference_in}
 use Rattle.lint_entries.specs.EntryParts.{attributes_at}

@@ -1,7 +1,7 @@
 -- What is known of a catalog.
 use Rattle.fluent_ids.specs.IdsView.{ids_view}
 use Rattle.fluent_meaning.specs.Ids.{Ids}
-use Rattle.lint_endless.specs.EndlessView.{ids_of}
+use Rattle.lint_nodes.specs.EndlessView.{ids_of}
 use Rattle.lint_entries.specs.declared.catalog.Catalog.{Catalog}
 
 -- what its ids stand for

@@ -6,8 +6,8 @@ use Rattle.std.specs.Str.{bytes_eq}
 use Rattle.fluent_grammar.specs.Words.{Text}
 use Rattle.fluent_grammar.specs.Tree.{Entry}
 use Rattle.fluent_meaning.specs.Ids.{Ids, find}
-use Rattle.lint_finding.specs.View.{finding_view}
-use Rattle.lint_finding.specs.declared.records.Finding as code
+use Rattle.lint_findings.specs.View.{finding_view}
+use Rattle.lint_findings.specs.declared.records.Finding as code
 use Rattle.lint_findings.specs.Files.{location}
 use Rattle.lint_findings.specs.Finding.{Finding}
 use Rattle.lint_findings.specs.DuplicateIds as d

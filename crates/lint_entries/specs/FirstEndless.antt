@@ -9,7 +9,7 @@ use Rattle.lint_findings.specs.Finding.{Finding, Remark}
 use Rattle.lint_findings.specs.FlawHints.{goes_on_text}
 use Rattle.lint_findings.specs.Flaws.{unresolved}
 use Rattle.lint_findings.specs.FlawWords.{flaw_words}
-use Rattle.lint_endless.specs.Marks.{is_entered}
+use Rattle.lint_nodes.specs.Marks.{is_entered}
 use Rattle.lint_findings.specs.Nodes.{Node, expression, select, repeated_key}
 
 abbrev pub first_or : Option Text → Option Text → Option Text

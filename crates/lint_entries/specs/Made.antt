@@ -3,8 +3,8 @@ use Rattle.std.specs.Prelude.{◌≡◌, List, ◌++◌, map, Vec}
 use Rattle.std.specs.Global.{Global}
 use Rattle.lint_findings.specs.EntryFindings.{finding_in}
 use Rattle.lint_findings.specs.Finding as f
-use Rattle.lint_finding.specs.View.{finding_view}
-use Rattle.lint_finding.specs.declared.records.Finding.{Finding}
+use Rattle.lint_findings.specs.View.{finding_view}
+use Rattle.lint_findings.specs.declared.records.Finding.{Finding}
 use Rattle.lint_entries.specs.Labels.{label_text}
 use Rattle.lint_entries.specs.declared.finding.EntryPoint.{EntryPoint}
 

@@ -10,8 +10,8 @@ use Rattle.lint_entries.specs.CatalogView.{ids_in, reference_in}
 use Rattle.lint_entries.specs.EntryParts.{LeaveRest, Parts, parts_found}
 use Rattle.lint_entries.specs.declared.catalog.Catalog.{Catalog}
 use Rattle.lint_entries.specs.declared.entry_parts.EntryParts.{EntryParts}
-use Rattle.lint_finding.specs.View.{finding_view}
-use Rattle.lint_finding.specs.declared.records.Finding.{Finding}
+use Rattle.lint_findings.specs.View.{finding_view}
+use Rattle.lint_findings.specs.declared.records.Finding.{Finding}
 
 -- the value of an entry, if it has one
 abbrev pub value_of : Option (Bor (Pattern (Bor Text))) → Option t.Elements

@@ -5,8 +5,8 @@ use Rattle.std.specs.Option.{option_to_list}
 use Rattle.std.specs.Str.{bytes_eq}
 use Rattle.fluent_grammar.specs.Tree.{Entry}
 use Rattle.fluent_grammar.specs.Words.{Text, is_among}
-use Rattle.lint_finding.specs.View.{finding_view}
-use Rattle.lint_finding.specs.declared.records.Finding as code
+use Rattle.lint_findings.specs.View.{finding_view}
+use Rattle.lint_findings.specs.declared.records.Finding as code
 use Rattle.lint_findings.specs.UnusedTerms.{unused_findings}
 use Rattle.lint_entries.specs.declared.terms.ReferredTerms.{ReferredTerms}
 

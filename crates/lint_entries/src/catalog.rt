@@ -3,9 +3,9 @@
 ghost use Rattle.lint_entries.specs.CommonIn.{AreCommonIn};
 
 use fluent_plurals::LanguagePlurals;
-use lint_endless::EndlessPatterns;
-use lint_finding::CatalogIds;
+use lint_findings::CatalogIds;
 use lint_flaws::CommonCategories;
+use lint_nodes::EndlessPatterns;
 
 /// What is known of a catalog: what its ids stand for and which of their references never end, what
 /// the ids of its reference stand for, and the plural rules of its language, if missing plural

@@ -11,7 +11,7 @@ use crate::duplicate::Duplicate;
 use crate::entries::label;
 use crate::location::Location;
 use fluent_ast::Entry;
-use lint_finding::{CatalogIds, Finding, Severity};
+use lint_findings::{CatalogIds, Finding, Severity};
 use std::alloc::{AllocError, Global};
 use std::collections::HashMap;
 

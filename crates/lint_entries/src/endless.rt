@@ -2,7 +2,7 @@
 #![tactic(auto)]
 
 ghost use Rattle.std.specs.Prelude.{◌≡◌, option_map};
-ghost use Rattle.lint_endless.specs.EndlessView.{ids_of};
+ghost use Rattle.lint_nodes.specs.EndlessView.{ids_of};
 ghost use Rattle.lint_entries.specs.FirstEndless as first;
 ghost use Rattle.lint_entries.specs.FoundAt.{nodes_of};
 ghost use Rattle.lint_entries.specs.Labels.{label_text};
@@ -10,8 +10,7 @@ ghost use Rattle.lint_nodes.specs.NodeView.{node_view};
 
 use crate::label::Label;
 use fluent_ast::InlineExpression;
-use lint_endless::EndlessPatterns;
-use lint_nodes::{Node, Occurrence, name_of};
+use lint_nodes::{EndlessPatterns, Node, Occurrence, name_of};
 
 /// The first reference that enters a pattern whose references never end.
 pub fn first_entered<'s>(

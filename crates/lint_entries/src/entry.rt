@@ -9,7 +9,7 @@ ghost use Rattle.lint_entries.specs.AttributesFound.{AddsIfTaken, place_of_attri
 ghost use Rattle.lint_entries.specs.Found.{IsFoundIn};
 ghost use Rattle.lint_entries.specs.HasNames.{GetsName};
 ghost use Rattle.lint_entries.specs.Made.{made_of};
-ghost use Rattle.lint_finding.specs.View.{finding_view};
+ghost use Rattle.lint_findings.specs.View.{finding_view};
 ghost use Rattle.lint_findings.specs.EntryFindings.{taken_remark};
 ghost use Rattle.lint_entries.specs.PartsView.{AreFoundOf, AreReadAt, value_of};
 ghost use Rattle.lint_nodes.specs.OccurrenceView.{IsPatternAt};
@@ -22,7 +22,7 @@ use crate::names::Names;
 use crate::pattern::push_pattern;
 use crate::text::{after_equals, skip_blank_block, skip_spaces};
 use fluent_ast::{Attribute, Entry, Pattern};
-use lint_finding::{Finding, Remark};
+use lint_findings::{Finding, Remark};
 use lint_nodes::{empty_pattern_rest, skip};
 use std::alloc::{AllocError, Global};
 

@@ -3,10 +3,10 @@
 
 ghost use Rattle.std.specs.Prelude.{◌≡◌, ◌-◌, IfOk, OnOk, drop, length, map, option_to_list};
 ghost use Rattle.lint_entries.specs.Made.{Adds, made_of};
-ghost use Rattle.lint_finding.specs.View.{finding_view, remark_view};
+ghost use Rattle.lint_findings.specs.View.{finding_view, remark_view};
 
 use crate::label::Label;
-use lint_finding::{Finding, Remark};
+use lint_findings::{Finding, Remark};
 use lint_nodes::skip;
 use std::alloc::{AllocError, Global};
 

@@ -3,11 +3,11 @@
 
 ghost use Rattle.std.specs.Prelude.{◌≡◌, Some};
 ghost use Rattle.lint_entries.specs.LocationText.{location_text};
-ghost use Rattle.lint_finding.specs.View.{file_view};
+ghost use Rattle.lint_findings.specs.View.{file_view};
 ghost use Rattle.lint_findings.specs.Files.{location};
-ghost use Rattle.lint_finding.specs.PlaceView.{IsPlaceIn};
+ghost use Rattle.lint_findings.specs.PlaceView.{IsPlaceIn};
 
-use lint_finding::{File, SourcePosition};
+use lint_findings::{File, SourcePosition};
 use std::fmt;
 
 /// A place in a file. Its text is `FILE:LINE:COLUMN`.

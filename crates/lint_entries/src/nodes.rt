@@ -7,7 +7,7 @@ ghost use Rattle.lint_entries.specs.Added.{AddsNode, AddsOccurrences, AddsRemark
 use crate::catalog::Catalog;
 use crate::finding::EntryPoint;
 use crate::label::Label;
-use lint_finding::{Finding, Remark};
+use lint_findings::{Finding, Remark};
 use lint_flaws::node_remarks;
 use lint_nodes::{Node, Occurrence};
 use std::alloc::{AllocError, Global};

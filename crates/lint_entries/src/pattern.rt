@@ -8,7 +8,7 @@ ghost use Rattle.lint_entries.specs.CatalogView.{ids_in};
 ghost use Rattle.lint_entries.specs.FirstEndless.{goes_on_remark};
 ghost use Rattle.lint_entries.specs.Labels.{label_text};
 ghost use Rattle.lint_entries.specs.Made.{Adds, made_of};
-ghost use Rattle.lint_finding.specs.View.{finding_view};
+ghost use Rattle.lint_findings.specs.View.{finding_view};
 ghost use Rattle.lint_nodes.specs.OccurrenceView.{IsPatternAt};
 
 use crate::catalog::Catalog;
@@ -18,8 +18,8 @@ use crate::label::Label;
 use crate::nodes::{push_occurrences, push_remarks};
 use fluent_ast::Pattern;
 use fluent_tokens::front;
-use lint_finding::{Finding, Remark};
-use lint_flaws::letter_remarks;
+use lint_findings::{Finding, Remark};
+use lint_flaws::{letter_remarks, word_remarks};
 use lint_nodes::{Occurrence, pattern_occurrences};
 use std::alloc::{AllocError, Global};
 
@@ -72,8 +72,9 @@ fn push_letters(
         at: text,
         label: name.label,
     };
-    let remarks = letter_remarks(alloc, front(text, len))?;
-    push_remarks(alloc, &place, remarks, findings)
+    let written = front(text, len);
+    push_remarks(alloc, &place, letter_remarks(alloc, written)?, findings)?;
+    push_remarks(alloc, &place, word_remarks(alloc, written)?, findings)
 }
 
 /// Adds the finding that the references of a pattern with these occurrences never end, if they

@@ -3,12 +3,12 @@
 
 ghost use Rattle.std.specs.Prelude.{[], IfOk, OnOk, Some};
 ghost use Rattle.fluent_ast.specs.Borrowed.{entry_of};
-ghost use Rattle.lint_endless.specs.HasNames.{texts};
+ghost use Rattle.lint_nodes.specs.HasNames.{texts};
 ghost use Rattle.lint_entries.specs.Terms.{AreTermsOf, GetsTerm, IsUnusedFinding};
 
 use crate::entries::label;
 use fluent_ast::Entry;
-use lint_finding::{Finding, Remark};
+use lint_findings::{Finding, Remark};
 use std::alloc::{AllocError, Global};
 use std::collections::HashSet;
 

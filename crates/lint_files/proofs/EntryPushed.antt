@@ -2,8 +2,8 @@
 use Rattle.std.proofs.Common.{◌≡◌, ◌∙◌, ℕ, Bool, true, false, if◌then◌else◌, List, [], ◌++◌, length, map, Option, Some, None, option_to_list, refl, sym, ap, append_assoc}
 use Rattle.std.specs.Prelude.{◌==◌, is_some, not}
 use Rattle.lint_entries.specs.AttributePlaces.{uncommented}
-use Rattle.lint_finding.specs.View.{finding_view}
-use Rattle.lint_finding.specs.declared.records.Finding as code
+use Rattle.lint_findings.specs.View.{finding_view}
+use Rattle.lint_findings.specs.declared.records.Finding as code
 use Rattle.lint_findings.specs.DuplicateIds.{Declaration, duplicate_findings, id_of}
 use Rattle.lint_findings.specs.EntryFindings.{entry_findings}
 use Rattle.lint_findings.specs.Files.{File}

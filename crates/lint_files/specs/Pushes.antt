@@ -11,16 +11,16 @@ use Rattle.lint_entries.specs.First.{AreFirst}
 use Rattle.lint_entries.specs.declared.declarations.Declarations.{Declarations}
 use Rattle.lint_entries.specs.AttributePlaces.{IsEntryAt, bare_entry}
 use Rattle.lint_entries.specs.Made.{Adds}
-use Rattle.lint_finding.specs.View.{file_view, finding_view}
-use Rattle.lint_finding.specs.declared.records.File.{File}
-use Rattle.lint_finding.specs.declared.records.Finding.{Finding}
+use Rattle.lint_findings.specs.View.{file_view, finding_view}
+use Rattle.lint_findings.specs.declared.records.File.{File}
+use Rattle.lint_findings.specs.declared.records.Finding.{Finding}
 use Rattle.lint_findings.specs.DuplicateIds.{Declaration}
 use Rattle.lint_findings.specs.EntryFindings.{entry_findings}
 use Rattle.lint_findings.specs.Finding as f
 use Rattle.lint_findings.specs.Findings.{Rules}
 use Rattle.lint_findings.specs.UnusedTerms.{unused_findings}
 use Rattle.fluent_grammar.specs.Words.{Text}
-use Rattle.lint_finding.specs.PlaceView.{IsPlaceIn}
+use Rattle.lint_findings.specs.PlaceView.{IsPlaceIn}
 use Rattle.lint_entries.specs.Kept.{Part, entry_part}
 use Rattle.lint_entries.specs.TileView.{tile_view}
 use Rattle.lint_entries.specs.declared.tile.Tile.{Tile}

@@ -9,7 +9,7 @@ ghost use Rattle.lint_entries.specs.TileView.{IsReadPart, tile_view};
 use crate::entry::{PlacedEntry, push_entry};
 use crate::rules::Rules;
 use lint_entries::{Declarations, Tile};
-use lint_finding::{File, Finding, SourcePosition};
+use lint_findings::{File, Finding, SourcePosition};
 use std::alloc::{AllocError, Global};
 use std::vec;
 

@@ -8,7 +8,7 @@ ghost use Rattle.lint_files.specs.RulesView.{rules_view};
 use crate::rules::Rules;
 use fluent_ast::Entry;
 use lint_entries::{Declarations, Location, entry_findings, push_found};
-use lint_finding::{File, Finding, SourcePosition};
+use lint_findings::{File, Finding, SourcePosition};
 use lint_nodes::declared_id;
 use std::alloc::{AllocError, Global};
 

@@ -5,7 +5,7 @@ ghost use Rattle.std.specs.Prelude.{◌≡◌, IfOk, map, option_map, string_byt
 ghost use Rattle.fluent_grammar.specs.Tiling as grammar;
 ghost use Rattle.fluent_parsed.specs.ErrorView.{error_told, error_view, kind_view};
 ghost use Rattle.fluent_parser.specs.Refusals.{AreBetweenCharacters, IsBetweenCharacters};
-ghost use Rattle.lint_finding.specs.View.{finding_view};
+ghost use Rattle.lint_findings.specs.View.{finding_view};
 ghost use Rattle.lint_findings.specs.Hints as hints;
 ghost use Rattle.lint_findings.specs.SyntaxErrors as errors;
 ghost use Rattle.lint_findings.specs.SyntaxFindings as syntax;
@@ -18,7 +18,7 @@ use crate::mark::{has_mark, mark_finding};
 use crate::names::name_at_front;
 use crate::words::Sentence;
 use fluent_parser::{ErrorKind, ParserError, Refusal, refusals_at};
-use lint_finding::{Finding, Severity};
+use lint_findings::{Finding, Severity};
 use std::alloc::{AllocError, Global};
 
 /// The finding of each junk of a source, in their order. The errors are those that

@@ -2,11 +2,11 @@
 #![tactic(auto)]
 
 ghost use Rattle.std.specs.Prelude.{◌≡◌, IfOk};
-ghost use Rattle.lint_finding.specs.View.{finding_view};
+ghost use Rattle.lint_findings.specs.View.{finding_view};
 ghost use Rattle.lint_findings.specs.Hints.{byte_order_mark, has_prefix};
 ghost use Rattle.lint_findings.specs.SyntaxFindings as syntax;
 
-use lint_finding::{Finding, Severity};
+use lint_findings::{Finding, Severity};
 use std::alloc::{AllocError, Global};
 
 const TEXT: &str = "the file begins with a byte order mark, so its first line can't be read";

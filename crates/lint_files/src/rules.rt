@@ -2,7 +2,7 @@
 
 use lint_comparison::Reference;
 use lint_entries::{Catalog, ReferredTerms};
-use lint_finding::CatalogIds;
+use lint_findings::CatalogIds;
 
 /// How the findings of a catalog are made.
 #[derive(Clone, Copy)]

@@ -28,8 +28,10 @@ use Rattle.lint_findings.specs.Occurrences.{Occurrence, occurrences, inline_read
 use Rattle.lint_findings.specs.Finding.{Finding, Remark, finding_at}
 use Rattle.lint_findings.proofs.NearNamesAreThere.{is_same}
 use Rattle.lint_findings.proofs.NodeRemarks.{flaw_finding, node_findings_are, lone_codes, IsPlain, doubts_are_plain}
-use Rattle.lint_findings.proofs.LetterRemarks.{letters_are_plain}
+use Rattle.lint_findings.proofs.LetterRemarks.{all_are_plain}
+use Rattle.lint_findings.specs.Encodings.{wrong_encodings}
 use Rattle.lint_findings.specs.Letters.{letters}
+use Rattle.lint_findings.specs.Scripts.{mixed_words}
 use Rattle.lint_findings.specs.EntryFindings.{endless_remark, finding_in, node_flaws, node_doubts, node_findings, nodes_findings, pattern_text, pattern_findings, attribute_findings, patterns_findings, pattern_places, entry_findings}
 use Rattle.lint_findings.specs.Files.{File}
 use Rattle.lint_findings.specs.DuplicateIds.{Declaration, id_of, label_of, duplicate_findings}
@@ -215,7 +217,9 @@ module _ (S : Type 0) (rules : Rules) (file : File) where
       (both (nodes_findings rules.ids rules.reference rules.plurals source owner place.pattern_at (elements_nodes es) os) _
       (subst (λ ns. AreSound (nodes_findings rules.ids rules.reference rules.plurals source owner place.pattern_at ns os)) same
       (of_nodes owner place.pattern_at h place.pattern_at os (occurrences_are_read place.pattern_at) (subst (All (IsOfSelects (source_selects source))) (sym same) known)))
-      (of_doubts owner place.pattern_at h (letters (pattern_text place.pattern_at)) (letters_are_plain (pattern_text place.pattern_at))))
+      (of_doubts owner place.pattern_at h
+      (letters (pattern_text place.pattern_at) ++ (mixed_words (pattern_text place.pattern_at) ++ wrong_encodings (pattern_text place.pattern_at)))
+      (all_are_plain (pattern_text place.pattern_at))))
 
   abbrev HasSelects : Owner × Elements → Type 0
   HasSelects p = AreAmong (elements_selects p.1) (source_selects source)

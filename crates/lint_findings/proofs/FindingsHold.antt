@@ -1,5 +1,5 @@
 -- What holds of the findings of an entry holds of those of all files.
-use Rattle.std.proofs.Common.{◌≡◌, ◌∙◌, ℕ, zero, suc, ◌<◌, Bool, true, false, if◌then◌else◌, List, [], ◌∷◌, ◌++◌, length, map, filter, Option, refl, sym, ap, subst, arith, append-nil, Contains}
+use Rattle.std.proofs.Common.{◌≡◌, ◌∙◌, ℕ, zero, suc, ◌<◌, Bool, true, false, if◌then◌else◌, List, [], ◌∷◌, ◌++◌, length, map, filter, Option, Some, None, refl, sym, ap, subst, arith, append-nil, Contains}
 use Rattle.std.specs.Prelude.{is_some}
 use Rattle.std.specs.List.{All, flat_map, slice_index_or}
 use Rattle.std.proofs.lemmas.Bool.{false≢true}
@@ -15,7 +15,11 @@ use Rattle.fluent_meaning.specs.Ids.{Ids, find}
 use Rattle.fluent_tidy_laws.specs.Joined.{lists}
 use Rattle.lint_findings.specs.Tiles.{Tile, entry_tile, junk_tile, tiles}
 use Rattle.lint_findings.specs.Comparison.{Difference, missing_message, obsolete_message, missing_value, obsolete_value, missing_attribute, obsolete_attribute, unknown_variable, missing_variable, unused_variable, untranslated, differences, variables_of, as_message}
-use Rattle.lint_findings.specs.ComparisonFindings.{difference_finding, difference_findings, loss_finding, loss_findings, message_findings, missing_findings}
+use Rattle.lint_findings.specs.ComparisonFindings.{difference_finding, difference_findings, loss_finding, loss_findings, message_findings, missing_findings, spotted_finding, texts_beside, texts_findings}
+use Rattle.lint_findings.specs.Doubts.{Doubt, Spotted, broken_entity, broken_tag, changed_number, changed_style, changed_url, double_space, edge_space, empty_text, empty_variant, long_access_key, long_key, long_text, lost_key, lost_placeholder, lost_sign, missing_element, missing_name, new_placeholder, straight_quote, three_dots, unclosed, unknown_element, unknown_name, unopened, unpaired_quote}
+use Rattle.lint_findings.specs.Occurrences.{PatternPlace, entry_places}
+use Rattle.lint_findings.specs.Pairs.{on_texts}
+use Rattle.fluent_meaning.specs.Fallback.{with_attribute}
 use Rattle.lint_findings.specs.Losses.{Loss, lacking_variant, dropped_plural, written_term, losses}
 use Rattle.fluent_plurals.specs.declared.plurals.LanguagePlurals.{LanguagePlurals}
 use Rattle.lint_findings.specs.Finding.{Finding}
@@ -53,11 +57,55 @@ module _ (S : Type 0) (rules : Rules) (file : File) where
   of_loss id s (dropped_plural v) = plain S rules file _ refl refl refl
   of_loss id s (written_term term text) = plain S rules file _ refl refl refl
 
+  of_doubt : (owner at p : Text) (d : Doubt) → IsSound S rules file (spotted_finding file.source owner at (record { doubt = d; piece = p }))
+  of_doubt owner at p broken_tag = plain S rules file _ refl refl refl
+  of_doubt owner at p (unknown_element known x) = plain S rules file _ refl refl refl
+  of_doubt owner at p (unclosed x) = plain S rules file _ refl refl refl
+  of_doubt owner at p (unopened x) = plain S rules file _ refl refl refl
+  of_doubt owner at p (missing_element x) = plain S rules file _ refl refl refl
+  of_doubt owner at p (unknown_name known n) = plain S rules file _ refl refl refl
+  of_doubt owner at p (missing_name n) = plain S rules file _ refl refl refl
+  of_doubt owner at p (broken_entity known n) = plain S rules file _ refl refl refl
+  of_doubt owner at p (long_access_key x) = plain S rules file _ refl refl refl
+  of_doubt owner at p (long_key x) = plain S rules file _ refl refl refl
+  of_doubt owner at p (changed_style x) = plain S rules file _ refl refl refl
+  of_doubt owner at p (lost_key k) = plain S rules file _ refl refl refl
+  of_doubt owner at p (changed_url x) = plain S rules file _ refl refl refl
+  of_doubt owner at p (lost_placeholder x) = plain S rules file _ refl refl refl
+  of_doubt owner at p (new_placeholder x) = plain S rules file _ refl refl refl
+  of_doubt owner at p (changed_number x) = plain S rules file _ refl refl refl
+  of_doubt owner at p (edge_space e) = plain S rules file _ refl refl refl
+  of_doubt owner at p double_space = plain S rules file _ refl refl refl
+  of_doubt owner at p three_dots = plain S rules file _ refl refl refl
+  of_doubt owner at p straight_quote = plain S rules file _ refl refl refl
+  of_doubt owner at p (unpaired_quote x) = plain S rules file _ refl refl refl
+  of_doubt owner at p (lost_sign x) = plain S rules file _ refl refl refl
+  of_doubt owner at p empty_text = plain S rules file _ refl refl refl
+  of_doubt owner at p empty_variant = plain S rules file _ refl refl refl
+  of_doubt owner at p long_text = plain S rules file _ refl refl refl
+
+  of_spotted : (owner at : Text) (x : Spotted) → IsSound S rules file (spotted_finding file.source owner at x)
+  of_spotted owner at x = of_doubt owner at x.piece x.doubt
+
+  of_texts : (id : Text) (ps : List PatternPlace) (said : List (List Spotted)) → All (IsSound S rules file) (texts_findings file.source id ps said)
+  of_texts id [] said = none S rules file
+  of_texts id (p ∷ ps) [] = none S rules file
+  of_texts id (p ∷ ps) (xs ∷ said) =
+      let owner = with_attribute id p.attribute in
+      All-append (IsSound S rules file) (map (spotted_finding file.source owner p.pattern_at) xs) _
+      (mapped S rules file (spotted_finding file.source owner p.pattern_at) (of_spotted owner p.pattern_at) xs) (of_texts id ps said)
+
+  of_other : (m : t.Message) (s : Text) (o : Option t.Message) → All (IsSound S rules file) (texts_beside file.source m s o)
+  of_other m s None = none S rules file
+  of_other m s (Some o) = of_texts m.id (entry_places s) (on_texts m o)
+
   of_message : (ids reference : Ids (Unit {0})) (plurals : Option LanguagePlurals) (e : t.Entry) (s : Text) → All (IsSound S rules file) (message_findings ids reference plurals file.source e s)
   of_message ids reference plurals (t.message m) s =
       All-append (IsSound S rules file) (difference_findings ids reference file.source m s) _
       (mapped S rules file (difference_finding file.source m.id s (variables_of reference m.id)) (of_difference m.id s (variables_of reference m.id)) (differences ids reference m.id))
+      (All-append (IsSound S rules file) (loss_findings reference plurals file.source m s) _
       (mapped S rules file (loss_finding file.source m.id s) (of_loss m.id s) (losses reference plurals m))
+      (of_other m s (as_message (find reference m.id))))
   of_message ids reference plurals (t.term m) s = none S rules file
   of_message ids reference plurals (t.comment c) s = none S rules file
   of_message ids reference plurals (t.group_comment c) s = none S rules file

@@ -8,6 +8,7 @@ mod DateRow
 mod CategoryRows
 mod FactRows
 mod LossRows
+mod TextRows
 mod NearNameRows
 mod ComparisonRows
 mod ReferenceRows
@@ -44,3 +45,10 @@ pub mod RepeatedKeys
 pub mod SourcePlaces
 pub mod EachFinding
 pub mod FindingsHold
+pub mod Steps
+pub mod Moves
+pub mod Within
+pub mod Seams
+pub mod Columns
+pub mod Splits
+pub mod Feeds

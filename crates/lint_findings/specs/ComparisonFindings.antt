@@ -5,15 +5,20 @@ use Rattle.std.specs.List.{flat_map}
 use Rattle.std.specs.Str.{bytes_eq}
 use Rattle.fluent_grammar.specs.Words.{Text, dot, dollar, is_among}
 use Rattle.fluent_grammar.specs.Tree as t
+use Rattle.fluent_meaning.specs.Fallback.{with_attribute}
 use Rattle.fluent_meaning.specs.Ids.{Ids, find}
 use Rattle.fluent_plurals.specs.declared.plurals.LanguagePlurals.{LanguagePlurals}
 use Rattle.lint_findings.specs.SyntaxErrors.{in_backticks}
 use Rattle.lint_findings.specs.Tiles.{Tile, entry_tile}
 use Rattle.lint_findings.specs.Comparison.{Difference, missing_message, obsolete_message, missing_value, obsolete_value, missing_attribute, obsolete_attribute, unknown_variable, missing_variable, unused_variable, untranslated, differences, variables_of, as_message}
+use Rattle.lint_findings.specs.Doubts.{Spotted, doubt_remark}
+use Rattle.lint_findings.specs.EntryFindings.{finding_in, pattern_text}
 use Rattle.lint_findings.specs.Losses.{Loss, losses, loss_remark}
 use Rattle.lint_findings.specs.NearNames.{nearest_hint}
 use Rattle.lint_findings.specs.Nodes.{Node, expression}
 use Rattle.lint_findings.specs.Occurrences.{Occurrence, occurrences, PatternPlace, entry_places}
+use Rattle.lint_findings.specs.Pairs.{on_texts}
+use Rattle.lint_findings.specs.Runs.{place_of}
 use Rattle.lint_findings.specs.Finding.{error, warning, note, Finding, Remark, remark, finding_at}
 
 -- a difference, without its hint
@@ -84,10 +89,31 @@ loss_finding source id s loss = finding_at (length source - length s) id (loss_r
 abbrev pub loss_findings : {F : Type 0} → Ids F → Option LanguagePlurals → Text → t.Message → Text → List Finding
 loss_findings reference plurals source m s = map (loss_finding source m.id s) (losses reference plurals m)
 
+-- The finding of what is said of a text, at its piece. The text is at the front of an end of this source.
+abbrev pub spotted_finding : Text → Text → Text → Spotted → Finding
+spotted_finding source owner at x =
+    finding_in source owner at (record (doubt_remark x.doubt) { inside = place_of x.piece (pattern_text at) })
+
+-- of the texts of the message of this id, each at its place
+abbrev pub texts_findings : Text → Text → List PatternPlace → List (List Spotted) → List Finding
+texts_findings source id [] said = []
+texts_findings source id (p ∷ ps) [] = []
+texts_findings source id (p ∷ ps) (xs ∷ said) =
+    map (spotted_finding source (with_attribute id p.attribute) p.pattern_at) xs ++ texts_findings source id ps said
+
+abbrev pub texts_beside : Text → t.Message → Text → Option t.Message → List Finding
+texts_beside source m s None = []
+texts_beside source m s (Some o) = texts_findings source m.id (entry_places s) (on_texts m o)
+
+-- what is said of the texts of a message beside those of the reference's
+abbrev pub text_findings : {F : Type 0} → Ids F → Text → t.Message → Text → List Finding
+text_findings reference source m s = texts_beside source m s (as_message (find reference m.id))
+
 -- of an entry of the catalog, in this source
 abbrev pub message_findings : {F : Type 0} → Ids F → Ids F → Option LanguagePlurals → Text → t.Entry → Text → List Finding
 message_findings ids reference plurals source (t.message m) s =
-    difference_findings ids reference source m s ++ loss_findings reference plurals source m s
+    difference_findings ids reference source m s
+    ++ (loss_findings reference plurals source m s ++ text_findings reference source m s)
 message_findings ids reference plurals source _ s = []
 
 -- of a message of the reference, in this source: whether the catalog has none

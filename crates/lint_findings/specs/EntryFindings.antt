@@ -22,7 +22,9 @@ use Rattle.lint_findings.specs.MissingCategories.{missing_categories}
 use Rattle.lint_findings.specs.Escapes.{invalid_escapes, named_escapes}
 use Rattle.lint_findings.specs.Misuses.{Misuse, call_misuses, misuse_remark}
 use Rattle.lint_findings.specs.Facts.{node_facts, fact_remark}
+use Rattle.lint_findings.specs.Encodings.{wrong_encodings}
 use Rattle.lint_findings.specs.Letters.{letters}
+use Rattle.lint_findings.specs.Scripts.{mixed_words}
 use Rattle.lint_findings.specs.Finding.{warning, Finding, Remark, remark, finding_at}
 use Rattle.lint_findings.specs.FlawHints.{never_ends, endless_hint, flaw_hint}
 use Rattle.lint_findings.specs.FlawWords.{flaw_words}
@@ -137,7 +139,9 @@ module _ {F : Type 0} (ids reference : Ids F) (plurals : Option LanguagePlurals)
 
   -- of the characters of a pattern, as the source has it
   abbrev pub letters_findings : Text → Text → List Finding
-  letters_findings owner at = map (finding_in source owner at) (letters (pattern_text at))
+  letters_findings owner at =
+      map (finding_in source owner at)
+      (letters (pattern_text at) ++ (mixed_words (pattern_text at) ++ wrong_encodings (pattern_text at)))
 
   -- of a pattern at its place: whether its references end, its nodes, and its characters
   abbrev pub pattern_findings : Text → PatternPlace → Elements → List Finding

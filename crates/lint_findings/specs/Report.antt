@@ -1,5 +1,5 @@
 -- Findings as text.
-use Rattle.std.specs.Prelude.{ℕ, Bool, true, false, List, [], ◌++◌, filter, codes}
+use Rattle.std.specs.Prelude.{ℕ, Bool, true, false, List, [], ◌∷◌, ◌++◌, filter, codes}
 use Rattle.std.specs.List.{flat_map, list_any}
 use Rattle.std.specs.Option.{option_map_or}
 use Rattle.fluent_grammar.specs.Words.{Text}
@@ -18,6 +18,13 @@ is_shown notes note = notes
 
 abbrev pub shown : Bool → List FileFinding → List FileFinding
 shown notes fs = filter (λ (f : FileFinding). is_shown notes f.finding.severity) fs
+
+-- the codes of the notes on texts, which are only shown if they are asked for
+abbrev pub text_codes : List Text
+text_codes =
+    codes "changed-url" ∷ codes "changed-placeholder" ∷ codes "changed-number" ∷ codes "edge-space" ∷ codes "double-space"
+    ∷ codes "final-punctuation" ∷ codes "three-dots" ∷ codes "unpaired-quote" ∷ codes "straight-quote" ∷ codes "empty-text"
+    ∷ codes "long-text" ∷ []
 
 -- warnings only fail a catalog if that is asked for
 abbrev pub is_failure : Bool → Severity → Bool

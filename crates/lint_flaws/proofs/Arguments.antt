@@ -4,8 +4,8 @@ use Rattle.std.proofs.lemmas.List.{map-append}
 use Rattle.fluent_ast.specs.View.{Named, nameds_of}
 use Rattle.fluent_grammar.specs.Tree.{Inline, Nameds}
 use Rattle.fluent_grammar.specs.Words.{Text}
-use Rattle.lint_finding.specs.View.{remark_view}
-use Rattle.lint_finding.specs.declared.remark.Remark.{Remark}
+use Rattle.lint_findings.specs.View.{remark_view}
+use Rattle.lint_findings.specs.declared.remark.Remark.{Remark}
 use Rattle.lint_findings.specs.Builtins.{Builtin, builtin_named}
 use Rattle.lint_findings.specs.Misuses.{Misuse, call_misuses, misuse_remark, misuses_by, misuses_of, named_misuses, overruled_misuses}
 

@@ -6,8 +6,8 @@ use Rattle.fluent_grammar.specs.Tree.{Inline, VariantKey}
 use Rattle.fluent_grammar.specs.Words.{Text}
 use Rattle.fluent_number.specs.declared.plural.PluralRuleType.{PluralRuleType}
 use Rattle.fluent_plurals.specs.declared.plurals.LanguagePlurals.{LanguagePlurals}
-use Rattle.lint_finding.specs.View.{remark_view}
-use Rattle.lint_finding.specs.declared.remark.Remark.{Remark}
+use Rattle.lint_findings.specs.View.{remark_view}
+use Rattle.lint_findings.specs.declared.remark.Remark.{Remark}
 use Rattle.lint_findings.specs.Facts.{Fact, fact_remark, argument_facts, named_facts, key_facts, variants_facts, other_facts, others_facts}
 use Rattle.lint_findings.specs.Nodes.{Node}
 

@@ -2,8 +2,8 @@
 use Rattle.std.proofs.Common.{◌≡◌, ◌∙◌, ℕ, suc, ◌+◌, ◌<◌, Bool, true, false, if◌then◌else◌, List, ◌∷◌, ◌++◌, length, map, drop, get_or, refl, sym, ap, append_assoc, add-one, drop-cons}
 use Rattle.std.specs.Prelude.{◌==◌, ◌&&◌}
 use Rattle.fluent_grammar.specs.Words.{Text, line_feed, begins_with}
-use Rattle.lint_finding.specs.View.{remark_view}
-use Rattle.lint_finding.specs.declared.remark.Remark.{Remark}
+use Rattle.lint_findings.specs.View.{remark_view}
+use Rattle.lint_findings.specs.declared.remark.Remark.{Remark}
 use Rattle.lint_findings.specs.Letters.{letters_from, letter_at, placed, begins_after, depth_after, is_ended, closes}
 
 first_of : (n : ℕ) (b : Bool) (d : ℕ) (t : Text) (y : ℕ) (ys : Text) → t ≡ y ∷ ys →

@@ -9,3 +9,8 @@ pub mod FactSteps
 pub mod Braces
 pub mod LetterSteps
 pub mod NodesCounted
+pub mod FirstLetters
+pub mod WordSteps
+pub mod Spelled
+pub mod AsciiTexts
+pub mod HexNumbers

@@ -4,8 +4,8 @@ use Rattle.std.proofs.lemmas.List.{map-append}
 use Rattle.std.proofs.lemmas.Option.{same_Some}
 use Rattle.lint_findings.specs.Finding as f
 use Rattle.lint_findings.specs.Flaws as flaws
-use Rattle.lint_finding.specs.View.{remark_view}
-use Rattle.lint_finding.specs.declared.remark.Remark.{Remark}
+use Rattle.lint_findings.specs.View.{remark_view}
+use Rattle.lint_findings.specs.declared.remark.Remark.{Remark}
 use Rattle.lint_flaws.specs.FlawView.{flaw_view}
 use Rattle.lint_flaws.specs.declared.flaw.Flaw.{Flaw}
 

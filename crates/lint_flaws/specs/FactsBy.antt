@@ -15,8 +15,8 @@ use Rattle.fluent_grammar.specs.Words.{Text}
 use Rattle.fluent_meaning.specs.Ids.{find}
 use Rattle.fluent_number.specs.declared.plural.PluralRuleType.{PluralRuleType}
 use Rattle.fluent_plurals.specs.declared.plurals.LanguagePlurals.{LanguagePlurals}
-use Rattle.lint_finding.specs.View.{remark_view}
-use Rattle.lint_finding.specs.declared.remark.Remark.{Remark}
+use Rattle.lint_findings.specs.View.{remark_view}
+use Rattle.lint_findings.specs.declared.remark.Remark.{Remark}
 use Rattle.lint_findings.specs.Facts as f
 use Rattle.lint_findings.specs.MissingCategories.{category_named, variant_keys}
 use Rattle.lint_flaws.specs.Said.{CatalogIds, known}

@@ -7,3 +7,4 @@ pub mod Common
 pub mod MissingAmong
 pub mod Escape
 pub mod Near
+pub mod Letters

@@ -17,10 +17,10 @@ use Rattle.lint_findings.specs.FlawWords.{attribute_words}
 use Rattle.lint_findings.specs.Flaws.{Flaw}
 use Rattle.lint_findings.specs.Letters.{placed}
 use Rattle.lint_findings.specs.Nodes.{Node}
-use Rattle.lint_finding.specs.View.{remark_view}
+use Rattle.lint_findings.specs.View.{remark_view}
 use Rattle.lint_flaws.specs.BuiltinView.{builtin_view}
 use Rattle.lint_flaws.specs.declared.builtins.Builtin.{Builtin}
-use Rattle.lint_finding.specs.declared.remark.Remark.{Remark}
+use Rattle.lint_findings.specs.declared.remark.Remark.{Remark}
 
 -- the ids of a catalog, as code has them
 abbrev pub CatalogIds : Type 0

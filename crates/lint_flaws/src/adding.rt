@@ -2,10 +2,10 @@
 #![tactic(auto)]
 
 ghost use Rattle.std.specs.Prelude.{◌∷◌, [], OnOk};
-ghost use Rattle.lint_finding.specs.View.{remark_view};
+ghost use Rattle.lint_findings.specs.View.{remark_view};
 ghost use Rattle.lint_flaws.specs.Said.{AddsRemarks};
 
-use lint_finding::Remark;
+use lint_findings::Remark;
 use std::alloc::AllocError;
 
 /// Adds a remark.

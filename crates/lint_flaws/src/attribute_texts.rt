@@ -18,7 +18,7 @@ use crate::plural_keys::category_named;
 use crate::term_uses::has_variant;
 use fluent_ast::{Attribute, InlineExpression, Pattern, PatternElement, Variant, VariantKey};
 use fluent_ids::Entry;
-use lint_finding::{CatalogIds, Remark};
+use lint_findings::{CatalogIds, Remark};
 use std::alloc::{AllocError, Global};
 
 /// Adds what is said of the keys of a select on an attribute of a term that is a text: which aren't
@@ -83,8 +83,8 @@ fn term_attribute_text<'s>(ids: &CatalogIds<'_, 's>, id: &str, name: &str) -> Op
     }
 }
 
-/// That of the first attribute of this name.
-fn attribute_text<'s>(attributes: &[Attribute<&'s str>], name: &str) -> Option<&'s str>
+/// The text that the first attribute of this name is, if it is nothing else.
+pub fn attribute_text<'s>(attributes: &[Attribute<&'s str>], name: &str) -> Option<&'s str>
     ensures { option_map (λ s. s.now) result
         ≡ f.attribute_text name.now (attributes_of attributes.now) }
 {
@@ -97,7 +97,7 @@ fn attribute_text<'s>(attributes: &[Attribute<&'s str>], name: &str) -> Option<&
 }
 
 /// The text that a pattern is, if it is nothing else.
-fn only_text<'s>(pattern: &Pattern<&'s str>) -> Option<&'s str>
+pub fn only_text<'s>(pattern: &Pattern<&'s str>) -> Option<&'s str>
     ensures { option_map (λ s. s.now) result ≡ f.only_text (elements_of pattern.now) }
 {
     first_if_only(&pattern.elements)

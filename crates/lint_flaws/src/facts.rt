@@ -19,7 +19,7 @@ use fluent_ast::{InlineExpression, NamedArgument, Variant};
 use fluent_ids::Entry;
 use fluent_plurals::LanguagePlurals;
 use fluent_tokens::unicode::unescape_unicode_to_string;
-use lint_finding::{CatalogIds, Remark};
+use lint_findings::{CatalogIds, Remark};
 use lint_nodes::Node;
 use std::alloc::{AllocError, Global};
 

@@ -4,14 +4,14 @@
 ghost use Rattle.std.specs.Prelude.{◌≡◌, IfOk, string_bytes};
 ghost use Rattle.fluent_ast.specs.Borrowed.{key_of};
 ghost use Rattle.lint_findings.specs.Flaws.{duplicate_key};
-ghost use Rattle.lint_finding.specs.View.{remark_view};
+ghost use Rattle.lint_findings.specs.View.{remark_view};
 ghost use Rattle.lint_findings.specs.FlawWords.{attribute_text, flaw_words};
 ghost use Rattle.lint_flaws.specs.FlawView.{flaw_view};
 ghost use Rattle.lint_flaws.specs.Said.{IsHintOf, IsOnAttribute, IsOnFlaw};
 
 use crate::hint::{message_hint, term_hint, value_hint};
 use fluent_ast::VariantKey;
-use lint_finding::{CatalogIds, Remark};
+use lint_findings::{CatalogIds, Remark};
 use lint_nodes::key_text;
 use std::alloc::{AllocError, Global};
 

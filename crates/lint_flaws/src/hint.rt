@@ -13,7 +13,7 @@ ghost use Rattle.fluent_meaning.specs.Ids.{find};
 use crate::near::{KnownNames, nearest};
 use fluent_ast::Attribute;
 use fluent_ids::Entry;
-use lint_finding::CatalogIds;
+use lint_findings::CatalogIds;
 use std::alloc::{AllocError, Global};
 
 /// The hint that a known name may be meant by this one, which is written with this sign before it.

@@ -2,7 +2,7 @@
 #![tactic(auto)]
 
 ghost use Rattle.std.specs.Prelude.{◌≡◌, IfOk, OnOk, map, option_map};
-ghost use Rattle.lint_finding.specs.View.{remark_view};
+ghost use Rattle.lint_findings.specs.View.{remark_view};
 ghost use Rattle.lint_findings.specs.Letters as l;
 ghost use Rattle.lint_flaws.specs.Said.{AddsPlaced, IsSaid};
 
@@ -12,7 +12,7 @@ use crate::characters::{
     is_word_joiner, is_zero_width_space, opens, turns,
 };
 use crate::marks::{depth_after, is_left_open};
-use lint_finding::Remark;
+use lint_findings::Remark;
 use lint_nodes::skip;
 use std::alloc::{AllocError, Global};
 

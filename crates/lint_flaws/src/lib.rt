@@ -7,7 +7,8 @@
 //! library makes nothing of (`builtins.rt` has the table of what is known of such a function), and
 //! in `facts.rt` what is wrong although no answer has an error. [`letter_remarks`] says what is
 //! wrong with the characters of a text: which stand for lost ones, which are control characters,
-//! which aren't seen, and which marks of direction end nothing, or aren't ended.
+//! which aren't seen, and which marks of direction end nothing, or aren't ended. [`word_remarks`]
+//! says which words have letters of two scripts, and what comes of a wrong encoding.
 //! `docs/reference/lint.md` has the rules in plain words.
 #![tactic(auto)]
 
@@ -16,6 +17,7 @@ mod attribute_texts;
 mod builtins;
 mod characters;
 mod common;
+mod encodings;
 mod escape;
 mod escape_nodes;
 mod facts;
@@ -32,8 +34,11 @@ mod plural_keys;
 mod quoted;
 mod remarks;
 mod rules;
+mod scripts;
 mod term_uses;
+mod words;
 
+pub use attribute_texts::{attribute_text, only_text};
 pub use builtins::returns_number;
 pub use common::CommonCategories;
 pub use hint::near_hint;
@@ -44,3 +49,4 @@ pub use quoted::first_quoted;
 pub use remarks::node_remarks;
 pub use rules::{has_forms, selector_rule};
 pub use term_uses::{push_attributes, push_nodes};
+pub use words::word_remarks;

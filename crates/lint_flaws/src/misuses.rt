@@ -5,7 +5,7 @@ ghost use Rattle.std.specs.Prelude.{◌≡◌, IfOk, OnOk, codes, option_copied,
 ghost use Rattle.fluent_ast.specs.Borrowed.{inline_of, named_of};
 ghost use Rattle.fluent_grammar.specs.Escapes.{unescaped};
 ghost use Rattle.fluent_grammar.specs.Words.{is_among};
-ghost use Rattle.lint_finding.specs.View.{remark_view};
+ghost use Rattle.lint_findings.specs.View.{remark_view};
 ghost use Rattle.lint_findings.specs.EntryFindings as e;
 ghost use Rattle.lint_findings.specs.Finding as f;
 ghost use Rattle.lint_findings.specs.Misuses as m;
@@ -18,7 +18,7 @@ use crate::hint::near_hint;
 use crate::near::KnownNames;
 use fluent_ast::{InlineExpression, NamedArgument};
 use fluent_tokens::unicode::unescape_unicode_to_string;
-use lint_finding::Remark;
+use lint_findings::Remark;
 use lint_nodes::Node;
 use std::alloc::{AllocError, Global};
 

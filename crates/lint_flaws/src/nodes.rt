@@ -16,7 +16,7 @@ ghost use Rattle.lint_nodes.specs.NodeView.{node_view};
 use crate::flaw::Flaw;
 use fluent_ast::{Attribute, InlineExpression, Variant};
 use fluent_ids::Entry;
-use lint_finding::CatalogIds;
+use lint_findings::CatalogIds;
 use lint_nodes::{Node, name_of};
 
 /// What is wrong with a node of a pattern, in a catalog with these ids. A node has one flaw at

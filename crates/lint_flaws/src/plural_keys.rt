@@ -5,7 +5,7 @@ ghost use Rattle.std.specs.Prelude.{◌≡◌, ◌∷◌, IfOk, OnOk, filter, ma
 ghost use Rattle.std.specs.List.{list_all, list_any};
 ghost use Rattle.fluent_ast.specs.Borrowed.{inline_of, key_of, positional_of, variants_of};
 ghost use Rattle.fluent_number.specs.Reading.{read_number};
-ghost use Rattle.lint_finding.specs.View.{remark_view};
+ghost use Rattle.lint_findings.specs.View.{remark_view};
 ghost use Rattle.lint_findings.specs.Facts as f;
 ghost use Rattle.lint_findings.specs.MissingCategories as m;
 ghost use Rattle.lint_flaws.specs.FactsBy as by;
@@ -21,7 +21,7 @@ use crate::rules::{category_text, is_taken, selector_rule};
 use fluent_ast::{InlineExpression, Variant, VariantKey};
 use fluent_number::{PluralCategory, PluralRuleType};
 use fluent_plurals::LanguagePlurals;
-use lint_finding::Remark;
+use lint_findings::Remark;
 use std::alloc::{AllocError, Global};
 
 /// Adds what is said of the keys of a select, by the rules of a language, if the select is one by

@@ -2,7 +2,7 @@
 #![tactic(auto)]
 
 ghost use Rattle.std.specs.Prelude.{◌≡◌, IfOk, OnOk, map};
-ghost use Rattle.lint_finding.specs.View.{remark_view};
+ghost use Rattle.lint_findings.specs.View.{remark_view};
 ghost use Rattle.lint_findings.specs.EntryFindings as e;
 ghost use Rattle.lint_flaws.specs.Common.{AreCommonBy};
 ghost use Rattle.lint_flaws.specs.Said.{AddsCategories, AddsFlaw, AddsRemarks, AreOnNode};
@@ -17,7 +17,7 @@ use crate::nodes::node_flaw;
 use crate::rules::category_text;
 use fluent_number::PluralCategory;
 use fluent_plurals::LanguagePlurals;
-use lint_finding::{CatalogIds, Remark};
+use lint_findings::{CatalogIds, Remark};
 use lint_nodes::Node;
 use std::alloc::{AllocError, Global};
 

@@ -3,3 +3,13 @@ pub mod HasKeys
 pub mod Rests
 pub mod TreeOccurrences
 pub mod OccurrenceView
+pub mod IndicesView
+pub mod Holding
+pub mod Catalog
+pub mod ReferenceGraph
+pub mod Marks
+pub mod EndlessView
+pub mod Graph
+pub mod Path
+pub mod HasNames
+pub mod HasReached

@@ -9,10 +9,10 @@ use Rattle.std.proofs.lemmas.Slice.Eq.{bytes_eq-Decides}
 use Rattle.fluent_grammar.specs.Words.{Text}
 use Rattle.lint_findings.specs.Findings.{FileFinding}
 use Rattle.lint_findings.specs.Summary.{finding_count}
-use Rattle.lint_finding.specs.View.{file_view, file_findings_view, finding_view, findings_view}
-use Rattle.lint_finding.specs.declared.records.FileFindings.{FileFindings}
-use Rattle.lint_finding.specs.declared.records.Finding.{Finding}
-use Rattle.lint_finding.specs.declared.records.File.{File}
+use Rattle.lint_findings.specs.View.{file_view, file_findings_view, finding_view, findings_view}
+use Rattle.lint_findings.specs.declared.records.FileFindings.{FileFindings}
+use Rattle.lint_findings.specs.declared.records.Finding.{Finding}
+use Rattle.lint_findings.specs.declared.records.File.{File}
 use Rattle.lint_report.specs.Counted.{has_code}
 
 other_way : (xs ys : Text) → bytes_eq xs ys ≡ bytes_eq ys xs

@@ -12,10 +12,10 @@ use Rattle.lint_findings.specs.GitlabReport.{gitlab_issue}
 use Rattle.lint_findings.specs.Listed.{listed_item}
 use Rattle.lint_findings.specs.SarifReport.{sarif_result}
 use Rattle.lint_findings.specs.Summary.{Summary}
-use Rattle.lint_finding.specs.View.{file_view, file_findings_view, finding_view, findings_view, severity_view}
-use Rattle.lint_finding.specs.declared.records.FileFindings.{FileFindings}
-use Rattle.lint_finding.specs.declared.records.Finding.{Finding}
-use Rattle.lint_finding.specs.declared.records.File.{File}
+use Rattle.lint_findings.specs.View.{file_view, file_findings_view, finding_view, findings_view, severity_view}
+use Rattle.lint_findings.specs.declared.records.FileFindings.{FileFindings}
+use Rattle.lint_findings.specs.declared.records.Finding.{Finding}
+use Rattle.lint_findings.specs.declared.records.File.{File}
 use Rattle.lint_report.specs.View.{in_file}
 use Rattle.lint_report.specs.declared.reports.Format.{Format}
 use Rattle.lint_report.specs.declared.reports.Format.TheVariants.{Text as AsText, Line, Terminal, Json, Github, Sarif, Gitlab}

@@ -3,7 +3,7 @@ use Rattle.std.proofs.Common.{◌≡◌, ◌∙◌, ℕ, ◌+◌, ◌<◌, ◌�
 use Rattle.std.proofs.lemmas.List.{map-append, take_more, take_all}
 use Rattle.lint_findings.specs.Summary as counted
 use Rattle.lint_findings.specs.Files as files
-use Rattle.lint_finding.specs.View.{file_view}
+use Rattle.lint_findings.specs.View.{file_view}
 use Rattle.lint_report.specs.ReportView.{summary_view}
 use Rattle.lint_report.specs.declared.summary.Summary.{Summary}
 use Rattle.lint_report.specs.declared.files.FileMessages.{FileMessages}

@@ -8,7 +8,7 @@ use Rattle.std.proofs.lemmas.List.{drop-append-le, length-take, take_all}
 use Rattle.fluent_grammar.specs.Words.{Text}
 use Rattle.lint_findings.specs.Position.{to_line_end}
 use Rattle.lint_findings.specs.ShownLine.{masked_character, dots_if, first_shown, shown_characters, characters_before}
-use Rattle.lint_finding.specs.PlaceView.{IsAfter}
+use Rattle.lint_findings.specs.PlaceView.{IsAfter}
 use Rattle.lint_report.specs.declared.excerpts.Excerpt.{Excerpt}
 use Rattle.lint_report.specs.declared.excerpts.Window.{Window}
 use Rattle.lint_report.specs.Excerpts.{IsFront, IsEnd, IsWindow}

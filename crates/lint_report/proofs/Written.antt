@@ -11,11 +11,11 @@ use Rattle.unicode_width.specs.Width.{char_width}
 use Rattle.fluent_grammar.specs.Words.{Text, space}
 use Rattle.lint_findings.specs.Position.{Position, line_at, to_line_end}
 use Rattle.lint_findings.specs.ShownLine.{character_padding, characters_before, dots_if, masked_character, masked_text, padding, shown_characters, shown_line_by}
-use Rattle.lint_finding.specs.View.{file_view, finding_view}
-use Rattle.lint_finding.specs.declared.records.Finding.{Finding}
-use Rattle.lint_finding.specs.declared.records.File.{File}
-use Rattle.lint_finding.specs.PlaceView.{IsAfter}
-use Rattle.lint_finding.specs.declared.places.SourcePosition.{SourcePosition}
+use Rattle.lint_findings.specs.View.{file_view, finding_view}
+use Rattle.lint_findings.specs.declared.records.Finding.{Finding}
+use Rattle.lint_findings.specs.declared.records.File.{File}
+use Rattle.lint_findings.specs.PlaceView.{IsAfter}
+use Rattle.lint_findings.specs.declared.places.SourcePosition.{SourcePosition}
 use Rattle.lint_report.specs.Excerpts.{IsWindow}
 use Rattle.lint_report.specs.declared.excerpts.Excerpt.{Excerpt}
 use Rattle.lint_report.specs.declared.excerpts.Window.{Window}

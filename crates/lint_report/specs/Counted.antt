@@ -6,9 +6,9 @@ use Rattle.std.specs.Str.{bytes_eq}
 use Rattle.fluent_grammar.specs.Words.{Text}
 use Rattle.lint_findings.specs.Files as files
 use Rattle.lint_findings.specs.Summary.{Summary, catalog_summary, summaries, finding_count, message_count, reference_summary}
-use Rattle.lint_finding.specs.View.{file_view, findings_view}
-use Rattle.lint_finding.specs.declared.records.Finding.{Finding}
-use Rattle.lint_finding.specs.declared.records.FileFindings.{FileFindings}
+use Rattle.lint_findings.specs.View.{file_view, findings_view}
+use Rattle.lint_findings.specs.declared.records.Finding.{Finding}
+use Rattle.lint_findings.specs.declared.records.FileFindings.{FileFindings}
 use Rattle.lint_report.specs.ReportView.{summary_view}
 use Rattle.lint_report.specs.declared.summary.Summary.{Summary as FileSummary}
 use Rattle.lint_report.specs.declared.files.FileMessages.{FileMessages}

@@ -4,7 +4,7 @@ use Rattle.std.specs.Str.{chars}
 use Rattle.fluent_grammar.specs.Words.{Text, after_line_end}
 use Rattle.lint_findings.specs.Position.{to_line_end}
 use Rattle.lint_findings.specs.ShownLine.{masked_character, dots_if, shown_characters, characters_before}
-use Rattle.lint_finding.specs.PlaceView.{IsAfter}
+use Rattle.lint_findings.specs.PlaceView.{IsAfter}
 use Rattle.lint_report.specs.declared.excerpts.Excerpt.{Excerpt}
 use Rattle.lint_report.specs.declared.excerpts.Window.{Window}
 

@@ -12,8 +12,8 @@ use Rattle.lint_findings.specs.GithubReport.{finding_command}
 use Rattle.lint_findings.specs.GitlabReport.{gitlab_issue}
 use Rattle.lint_findings.specs.Listed.{after_comma, listed_item}
 use Rattle.lint_findings.specs.SarifReport.{sarif_head, sarif_result, sarif_tail}
-use Rattle.lint_finding.specs.View.{file_findings_view, findings_view}
-use Rattle.lint_finding.specs.declared.records.FileFindings.{FileFindings}
+use Rattle.lint_findings.specs.View.{file_findings_view, findings_view}
+use Rattle.lint_findings.specs.declared.records.FileFindings.{FileFindings}
 use Rattle.lint_report.specs.View.{shown_width}
 use Rattle.lint_report.specs.ReportView.{summary_view}
 use Rattle.lint_report.specs.declared.summary.Summary.{Summary as FileSummary}

@@ -4,9 +4,9 @@ use Rattle.std.specs.Str.{chars, encode_utf8_all}
 use Rattle.std.specs.Option.{option_map_or}
 use Rattle.fluent_grammar.specs.Words.{Text, space}
 use Rattle.lint_findings.specs.ShownLine.{masked_character, masked_text, dots_if, padding, shown_line_by}
-use Rattle.lint_finding.specs.View.{file_view, finding_view, severity_view}
-use Rattle.lint_finding.specs.declared.records.Finding.{Finding}
-use Rattle.lint_finding.specs.declared.records.File.{File}
+use Rattle.lint_findings.specs.View.{file_view, finding_view, severity_view}
+use Rattle.lint_findings.specs.declared.records.Finding.{Finding}
+use Rattle.lint_findings.specs.declared.records.File.{File}
 use Rattle.lint_report.specs.declared.excerpts.Excerpt.{Excerpt}
 use Rattle.lint_report.specs.declared.excerpts.Window.{Window}
 use Rattle.lint_report.specs.ByColours.{caret_by}

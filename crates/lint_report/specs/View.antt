@@ -6,11 +6,11 @@ use Rattle.unicode_width.specs.Width.{char_width}
 use Rattle.fluent_grammar.specs.Words.{Text}
 use Rattle.lint_findings.specs.Findings.{FileFinding}
 use Rattle.lint_findings.specs.Position.{position_of, line_from}
-use Rattle.lint_finding.specs.View.{file_view, finding_view}
-use Rattle.lint_finding.specs.declared.records.Finding.{Finding}
-use Rattle.lint_finding.specs.declared.records.File.{File}
-use Rattle.lint_finding.specs.PlaceView.{IsPlaceIn, place_position}
-use Rattle.lint_finding.specs.declared.places.SourcePosition.{SourcePosition}
+use Rattle.lint_findings.specs.View.{file_view, finding_view}
+use Rattle.lint_findings.specs.declared.records.Finding.{Finding}
+use Rattle.lint_findings.specs.declared.records.File.{File}
+use Rattle.lint_findings.specs.PlaceView.{IsPlaceIn, place_position}
+use Rattle.lint_findings.specs.declared.places.SourcePosition.{SourcePosition}
 
 -- a finding with its file
 abbrev pub in_file : File → Finding → FileFinding

@@ -2,14 +2,14 @@
 
 ghost use Rattle.lint_report.specs.Changes.{Appends};
 ghost use Rattle.std.specs.Prelude.{◌≡◌, OnOk, IfSome, IfNone, ◌<◌, ◌∷◌, [], encode_utf8};
-ghost use Rattle.lint_finding.specs.View.{finding_view, severity_view};
+ghost use Rattle.lint_findings.specs.View.{finding_view, severity_view};
 ghost use Rattle.lint_findings.specs.GithubReport.{command_name as name_of_command, finding_command};
 ghost use Rattle.lint_findings.specs.Report.{labelled_text};
 ghost use Rattle.lint_report.specs.Parts.{escaped, part_byte};
 ghost use Rattle.lint_report.specs.declared.commands.Part.TheVariants.{Message};
 ghost use Rattle.lint_report.specs.View.{IsAt, entry_label, in_file, optional_text};
 
-use lint_finding::{File, Finding, Severity, SourcePosition};
+use lint_findings::{File, Finding, Severity, SourcePosition};
 use std::alloc::AllocError;
 
 /// Appends the command of a finding that is at this place:

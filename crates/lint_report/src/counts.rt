@@ -4,7 +4,7 @@ ghost use Rattle.std.specs.Prelude.{◌≡◌, IfOk, OnOk, count_by, string_byte
 ghost use Rattle.std.specs.HashMap.{get_by_text};
 ghost use Rattle.lint_report.specs.Counted.{AreCounts, IsAdded, has_code};
 
-use lint_finding::{FileFindings, Finding};
+use lint_findings::{FileFindings, Finding};
 use std::alloc::{AllocError, Global};
 use std::collections::HashMap;
 

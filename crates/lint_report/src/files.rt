@@ -6,7 +6,7 @@ ghost use Rattle.lint_report.specs.Counted.{Adds, AreCounts, IsCounted, catalog_
 
 use crate::Summary;
 use crate::counts::{count_for, counts_by_name};
-use lint_finding::{File, FileFindings};
+use lint_findings::{File, FileFindings};
 use std::alloc::{AllocError, Global};
 use std::collections::HashMap;
 

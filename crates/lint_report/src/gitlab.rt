@@ -3,7 +3,7 @@
 ghost use Rattle.lint_report.specs.Changes.{Appends};
 ghost use Rattle.std.specs.Prelude.{◌≡◌, IfOk, OnOk, codes, string_bytes};
 ghost use Rattle.std.specs.Option.{unwrap_or};
-ghost use Rattle.lint_finding.specs.View.{severity_view};
+ghost use Rattle.lint_findings.specs.View.{severity_view};
 ghost use Rattle.lint_findings.specs.GitlabReport.{fingerprint as fingerprint_text, gitlab_issue, gitlab_severity};
 ghost use Rattle.lint_findings.specs.Listed.{listed_item};
 ghost use Rattle.lint_report.specs.View.{IsAt, in_file, optional_text};
@@ -11,7 +11,7 @@ ghost use Rattle.serde_json.specs.View.{view};
 
 use crate::listed::push_item;
 use crate::sarif::message;
-use lint_finding::{File, Finding, Severity, SourcePosition};
+use lint_findings::{File, Finding, Severity, SourcePosition};
 use serde_json::{Value, json};
 use std::alloc::{AllocError, Global};
 

@@ -10,7 +10,7 @@ ghost use Rattle.serde_json.specs.View.{view};
 ghost use Rattle.serde_json.specs.Written.{compact_text};
 
 use crate::severity_name;
-use lint_finding::{File, Finding, SourcePosition};
+use lint_findings::{File, Finding, SourcePosition};
 use serde_json::{Map, Value};
 use std::alloc::{AllocError, Global};
 

@@ -6,7 +6,8 @@
 //! and its hint. Control characters and marks that change the direction of text are masked:
 //! [`push_masked`] appends any text so. [`report`] writes all findings of a catalog in one
 //! [`Format`], and a [`Summary`] for each file if there is a reference; [`summaries`] counts these.
-//! [`has_failed`] says whether the status is that of a failure.
+//! [`has_failed`] says whether the status is that of a failure. [`text_codes`] are the codes of the
+//! notes that are only shown if they are asked for.
 //!
 //! The texts are those of `Report.antt`, `ShownLine.antt`, `Output.antt` and `Summary.antt` in
 //! `crates/lint_findings/specs`; `docs/reference/lint.md` shows them.
@@ -17,6 +18,7 @@ mod counts;
 mod excerpts;
 mod files;
 mod gitlab;
+mod groups;
 mod json;
 mod lines;
 mod listed;
@@ -27,6 +29,7 @@ mod shown;
 mod summary;
 
 pub use files::{FileMessages, summaries};
+pub use groups::text_codes;
 pub use lines::{push_finding_line, severity_name};
 pub use masked::push_masked;
 pub use reports::{Format, has_failed, report};

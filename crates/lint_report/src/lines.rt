@@ -2,7 +2,7 @@
 
 ghost use Rattle.lint_report.specs.Changes.{Appends};
 ghost use Rattle.std.specs.Prelude.{◌≡◌, OnOk, false, true};
-ghost use Rattle.lint_finding.specs.View.{finding_view, severity_view};
+ghost use Rattle.lint_findings.specs.View.{finding_view, severity_view};
 ghost use Rattle.lint_findings.specs.Colours.{coloured, severity_colour};
 ghost use Rattle.lint_findings.specs.Report.{labelled_text, severity_text};
 ghost use Rattle.lint_findings.specs.ShownLine.{masked_text};
@@ -10,7 +10,7 @@ ghost use Rattle.lint_report.specs.ByColours.{caret_by, head_by, line_by};
 ghost use Rattle.lint_report.specs.View.{IsAt, entry_label, in_file, optional_text};
 
 use crate::masked::push_masked;
-use lint_finding::{File, Finding, Severity, SourcePosition};
+use lint_findings::{File, Finding, Severity, SourcePosition};
 use std::alloc::AllocError;
 
 /// Appends the first line of a finding that is at this place, with the place and the severity in

@@ -3,7 +3,7 @@
 ghost use Rattle.lint_report.specs.Changes.{Appends};
 ghost use Rattle.std.specs.Prelude.{◌≡◌, IfOk, OnOk, map, string_bytes};
 ghost use Rattle.std.specs.List.{list_any};
-ghost use Rattle.lint_finding.specs.View.{findings_view, severity_view};
+ghost use Rattle.lint_findings.specs.View.{findings_view, severity_view};
 ghost use Rattle.lint_findings.specs.Report.{has_failed as fails, is_failure as severity_fails, is_shown as severity_is_shown};
 ghost use Rattle.lint_report.specs.View.{IsAt, IsOnLine, in_file};
 ghost use Rattle.lint_report.specs.ReportView.{summary_view};
@@ -16,7 +16,7 @@ use crate::listed::document;
 use crate::sarif::{self, push_result};
 use crate::summary::{Summary, push_json_summaries, push_summary_lines};
 use crate::{push_finding_line, push_finding_text};
-use lint_finding::{File, FileFindings, Finding, Severity, SourcePosition};
+use lint_findings::{File, FileFindings, Finding, Severity, SourcePosition};
 use std::alloc::{AllocError, Global};
 
 /// How findings are written.

@@ -3,8 +3,8 @@
 ghost use Rattle.lint_report.specs.Changes.{Appends};
 ghost use Rattle.std.specs.Prelude.{◌≡◌, IfOk, OnOk, string_bytes};
 ghost use Rattle.std.specs.List.{flat_map};
-ghost use Rattle.lint_finding.specs.PlaceView.{place_position};
-ghost use Rattle.lint_finding.specs.View.{finding_view};
+ghost use Rattle.lint_findings.specs.PlaceView.{place_position};
+ghost use Rattle.lint_findings.specs.View.{finding_view};
 ghost use Rattle.lint_findings.specs.Listed.{listed_item};
 ghost use Rattle.lint_findings.specs.SarifReport.{message_text, sarif_location, sarif_place, sarif_region, sarif_result, uri_byte};
 ghost use Rattle.lint_report.specs.View.{IsAt, in_file};
@@ -12,7 +12,7 @@ ghost use Rattle.serde_json.specs.View.{view};
 
 use crate::listed::push_item;
 use crate::severity_name;
-use lint_finding::{File, Finding, SourcePosition};
+use lint_findings::{File, Finding, SourcePosition};
 use percent_encoding::{AsciiSet, NON_ALPHANUMERIC, ascii_set, percent_encode};
 use serde_json::{Value, json};
 use std::alloc::{AllocError, Global};

@@ -12,7 +12,7 @@ ghost use Rattle.lint_report.specs.View.{IsAt, IsOnLine, in_file, optional_text,
 use crate::excerpts::{Excerpt, Window};
 use crate::lines::{caret, push_finding_line};
 use crate::masked::{masked, push_masked};
-use lint_finding::{File, Finding, SourcePosition};
+use lint_findings::{File, Finding, SourcePosition};
 use std::alloc::AllocError;
 use unicode_width::UnicodeWidthChar;
 

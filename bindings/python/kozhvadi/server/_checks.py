@@ -49,6 +49,17 @@ _COMPARED = {
     "variant-lacks-variable",
     "plural-dropped",
     "term-as-text",
+    "broken-tag",
+    "unbalanced-element",
+    "unknown-element",
+    "missing-element",
+    "missing-l10n-name",
+    "unknown-l10n-name",
+    "broken-entity",
+    "long-access-key",
+    "long-key",
+    "changed-style",
+    "access-key-not-in-label",
 }
 
 # This note is reported without being asked for, as a hint: what is added from the reference is untranslated.

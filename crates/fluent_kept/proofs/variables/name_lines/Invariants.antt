@@ -1,6 +1,6 @@
 use Rattle.std.proofs.Common.{◌≡◌, take, string_bytes}
 use Rattle.fluent_run.specs.Listing.{lines}
-use Rattle.lint_endless.specs.HasNames.{texts}
+use Rattle.lint_nodes.specs.HasNames.{texts}
 use Rattle.fluent_kept.proofs.variables.name_lines.Given as goal
 
 -- the lines of the names so far

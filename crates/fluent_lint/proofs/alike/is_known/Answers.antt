@@ -1,8 +1,8 @@
 use Rattle.std.proofs.Common.{◌∙◌, rules}
 use Rattle.std.proofs.lemmas.Iterator.{YieldsList-from_slice}
 use Rattle.std.proofs.lemmas.Iterator.Search.{any_from_yields_List}
-use Rattle.lint_finding.specs.View.{finding_view}
-use Rattle.lint_finding.specs.declared.records.Finding.{Finding}
+use Rattle.lint_findings.specs.View.{finding_view}
+use Rattle.lint_findings.specs.declared.records.Finding.{Finding}
 use Rattle.fluent_lint.specs.Pairs.{are_alike}
 use Rattle.fluent_lint.proofs.AlikeFindings.{any_viewed}
 use Rattle.fluent_lint.proofs.alike.is_known.Goals as goal

@@ -1,7 +1,7 @@
 use Rattle.std.proofs.Common.{◌∙◌, ap, map, not, rules}
 use Rattle.std.proofs.lemmas.Fn.{filter_same}
-use Rattle.lint_finding.specs.View.{finding_view}
-use Rattle.lint_finding.specs.declared.records.Finding.{Finding}
+use Rattle.lint_findings.specs.View.{finding_view}
+use Rattle.lint_findings.specs.declared.records.Finding.{Finding}
 use Rattle.lint_findings.specs.Finding as f
 use Rattle.fluent_lint.specs.Pairs.{is_known}
 use Rattle.fluent_lint.proofs.InOrder.{map-filter}

@@ -1,6 +1,6 @@
 use Rattle.std.proofs.Common.{◌≡◌, ◌∙◌, List, ap, map, subst}
 use Rattle.std.specs.Prelude.{IfOk}
-use Rattle.lint_finding.specs.View.{findings_view}
+use Rattle.lint_findings.specs.View.{findings_view}
 use Rattle.lint_findings.specs.Files.{File}
 use Rattle.lint_findings.specs.Summary.{summaries}
 use Rattle.fluent_lint.specs.FileTiles.{files_of, files_view}

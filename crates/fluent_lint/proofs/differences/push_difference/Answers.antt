@@ -8,7 +8,7 @@ use Rattle.lint_entries.specs.AttributePlaces.{uncommented}
 use Rattle.lint_entries.specs.Kept.{entry_part}
 use Rattle.lint_entries.specs.Made.{Adds}
 use Rattle.lint_entries.specs.TileView.{tile_view}
-use Rattle.lint_finding.specs.View.{finding_view}
+use Rattle.lint_findings.specs.View.{finding_view}
 use Rattle.lint_findings.specs.ComparisonFindings.{message_findings}
 use Rattle.fluent_lint.specs.Own.{compared_in, shown_view}
 use Rattle.fluent_lint.specs.Shown.{compared_by, either_ids, has_both}

@@ -1,11 +1,11 @@
 use Rattle.std.proofs.Common.{◌≡◌, ◌∙◌, ◌<◌, ◌≤◌, List, [], ◌++◌, arith, ap, get_or, length, map, subst, sym}
 use Rattle.std.proofs.Math.ListN.{get_or-map}
 use Rattle.std.proofs.lemmas.List.{length-map, take_all}
-use Rattle.lint_endless.specs.HasNames.{HasNames}
+use Rattle.lint_nodes.specs.HasNames.{HasNames}
 use Rattle.lint_entries.specs.Kept.{parts}
 use Rattle.lint_entries.specs.TileView.{IsReadPart, tile_view}
 use Rattle.lint_entries.specs.declared.tile.Tile.{Tile}
-use Rattle.lint_finding.specs.View.{finding_view}
+use Rattle.lint_findings.specs.View.{finding_view}
 use Rattle.fluent_lint.specs.Own.{compared_in}
 use Rattle.fluent_lint.specs.Shown.{of_firsts}
 use Rattle.fluent_lint.proofs.Compared.{compared_is}

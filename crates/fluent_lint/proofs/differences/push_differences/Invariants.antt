@@ -1,7 +1,7 @@
 use Rattle.std.proofs.Common.{◌≡◌, [], ◌++◌, map, take}
-use Rattle.lint_endless.specs.HasNames.{HasNames}
+use Rattle.lint_nodes.specs.HasNames.{HasNames}
 use Rattle.lint_entries.specs.TileView.{tile_view}
-use Rattle.lint_finding.specs.View.{finding_view}
+use Rattle.lint_findings.specs.View.{finding_view}
 use Rattle.fluent_lint.specs.Own.{compared_in}
 use Rattle.fluent_lint.specs.Shown.{of_firsts}
 use Rattle.fluent_lint.proofs.FirstParts.{ids_through}

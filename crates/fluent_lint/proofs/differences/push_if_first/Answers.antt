@@ -1,7 +1,7 @@
 use Rattle.std.proofs.Common.{◌∙◌, ◌++◌, [], ap, append-nil, map, if◌then◌else◌, sym}
 use Rattle.std.proofs.lemmas.Result.{on_ok_weaker}
 use Rattle.lint_entries.specs.TileView.{tile_view}
-use Rattle.lint_finding.specs.View.{finding_view}
+use Rattle.lint_findings.specs.View.{finding_view}
 use Rattle.fluent_lint.specs.Own.{compared_in}
 use Rattle.fluent_lint.proofs.differences.push_if_first.Goals as goal
 

@@ -3,9 +3,9 @@ use Rattle.std.proofs.lemmas.List.{drop_all, take_all}
 use Rattle.lint_files.specs.PartFindings.{declared_in}
 use Rattle.fluent_lint.specs.Found.{found_by_files}
 use Rattle.lint_files.specs.RulesView.{rules_view}
-use Rattle.lint_finding.specs.View.{file_view, findings_view}
+use Rattle.lint_findings.specs.View.{file_view, findings_view}
 use Rattle.fluent_lint.specs.FileTiles.{files_of, files_view}
-use Rattle.lint_finding.specs.declared.records.FileFindings.{FileFindings}
+use Rattle.lint_findings.specs.declared.records.FileFindings.{FileFindings}
 use Rattle.fluent_lint.specs.ReferenceView.{named_by}
 use Rattle.fluent_lint.specs.Silence.{heard_if}
 use Rattle.fluent_lint.specs.declared.tiles.FileTiles.{FileTiles}

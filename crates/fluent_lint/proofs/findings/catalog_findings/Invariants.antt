@@ -1,7 +1,7 @@
 use Rattle.std.proofs.Common.{◌≡◌, ◌++◌, [], List, drop, take}
 use Rattle.lint_files.specs.RulesView.{rules_view}
 use Rattle.lint_entries.specs.First.{AreFirst}
-use Rattle.lint_finding.specs.View.{findings_view}
+use Rattle.lint_findings.specs.View.{findings_view}
 use Rattle.lint_findings.specs.DuplicateIds.{Declaration}
 use Rattle.fluent_lint.specs.FileTiles.{files_of, files_view}
 use Rattle.fluent_lint.specs.Found.{found_by_files}

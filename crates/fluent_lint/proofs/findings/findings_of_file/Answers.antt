@@ -2,7 +2,7 @@ use Rattle.std.proofs.Common.{◌∙◌, ap, map}
 use Rattle.lint_entries.specs.TileView.{tile_view}
 use Rattle.lint_files.specs.PartFindings.{findings_of_parts}
 use Rattle.lint_files.specs.RulesView.{rules_view}
-use Rattle.lint_finding.specs.View.{file_view, finding_view}
+use Rattle.lint_findings.specs.View.{file_view, finding_view}
 use Rattle.lint_findings.specs.Finding.{Finding}
 use Rattle.lint_findings.specs.SyntaxFindings.{syntax_findings}
 use Rattle.lint_findings.specs.Tiles.{tiles}

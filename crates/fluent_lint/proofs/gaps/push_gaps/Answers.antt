@@ -1,6 +1,6 @@
 use Rattle.std.proofs.Common.{◌∙◌, ◌++◌, ap, map}
 use Rattle.std.specs.Prelude.{count_by}
-use Rattle.lint_finding.specs.View.{file_view, finding_view}
+use Rattle.lint_findings.specs.View.{file_view, finding_view}
 use Rattle.fluent_resource.specs.Sources.{texts}
 use Rattle.fluent_lint.specs.Pairs.{gaps_from, is_translated, message_places}
 use Rattle.fluent_lint.proofs.Gapped.{placed}

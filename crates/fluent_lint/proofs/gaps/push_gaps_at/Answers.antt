@@ -1,7 +1,7 @@
 use Rattle.std.proofs.Common.{◌∙◌, ◌++◌, ap, map, sym, append-nil}
 use Rattle.std.proofs.lemmas.List.{drop_all}
 use Rattle.fluent_resource.specs.Sources.{texts}
-use Rattle.lint_finding.specs.View.{finding_view}
+use Rattle.lint_findings.specs.View.{finding_view}
 use Rattle.fluent_lint.specs.Pairs.{gaps_from}
 use Rattle.fluent_lint.proofs.Gapped.{one_gap}
 use Rattle.fluent_lint.proofs.gaps.push_gaps_at.Goals as goal

@@ -1,7 +1,7 @@
 use Rattle.std.proofs.Common.{◌≡◌, ℕ, List, ◌++◌, drop, map}
 use Rattle.fluent_grammar.specs.Words.{Text}
 use Rattle.fluent_resource.specs.Sources.{texts}
-use Rattle.lint_finding.specs.View.{finding_view}
+use Rattle.lint_findings.specs.View.{finding_view}
 use Rattle.fluent_lint.specs.MessagePlaces.{HasPlaces}
 use Rattle.fluent_lint.specs.Pairs.{gaps_from}
 use Rattle.fluent_lint.proofs.gaps.push_gaps_at.Given as goal

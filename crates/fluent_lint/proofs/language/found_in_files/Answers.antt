@@ -5,14 +5,14 @@ use Rattle.std.specs.List.{slice_get}
 use Rattle.std.specs.Prelude.{unwrap_or}
 use Rattle.lint_entries.specs.First.{AreFirst}
 use Rattle.lint_files.specs.RulesView.{rules_view}
-use Rattle.lint_finding.specs.View.{file_view}
-use Rattle.lint_finding.specs.declared.records.FileFindings.{FileFindings}
+use Rattle.lint_findings.specs.View.{file_view}
+use Rattle.lint_findings.specs.declared.records.FileFindings.{FileFindings}
 use Rattle.fluent_lint.specs.FileTiles.{files_of, files_view}
 use Rattle.fluent_lint.specs.Languages.{catalogs_of}
 use Rattle.fluent_lint.specs.ReferenceView.{files_found}
 use Rattle.fluent_lint.specs.Silence.{heard, looked_in}
 use Rattle.fluent_lint.specs.declared.looked.Looked.{Looked}
-use Rattle.lint_finding.specs.View.{finding_view}
+use Rattle.lint_findings.specs.View.{finding_view}
 use Rattle.fluent_lint.specs.Taken.{declared_with}
 use Rattle.fluent_lint.specs.Translated.{LanguageFile, found_for, original_ids}
 use Rattle.fluent_lint.specs.declared.original.Original.{Original}

@@ -4,12 +4,12 @@ use Rattle.fluent_grammar.specs.Words.{Text}
 use Rattle.fluent_ids.specs.IdsView.{ids_view}
 use Rattle.fluent_meaning.specs.Ids.{Ids}
 use Rattle.lint_comparison.specs.declared.reference.Reference.{Reference}
-use Rattle.lint_endless.specs.Catalog.{AreDeclaredIn}
-use Rattle.lint_endless.specs.EndlessView.{ids_of}
+use Rattle.lint_nodes.specs.Catalog.{AreDeclaredIn}
+use Rattle.lint_nodes.specs.EndlessView.{ids_of}
 use Rattle.lint_entries.proofs.CommonIn.{in_language as common_in_language}
 use Rattle.lint_entries.specs.Terms.{is_referred}
 use Rattle.lint_files.specs.RulesView.{compare_with}
-use Rattle.lint_finding.specs.declared.records.File.{File}
+use Rattle.lint_findings.specs.declared.records.File.{File}
 use Rattle.lint_findings.specs.Findings.{Rules, known_ids, sources}
 use Rattle.lint_findings.specs.UnusedTerms.{is_referred_in}
 use Rattle.fluent_lint.specs.FileTiles.{files_of, files_view}

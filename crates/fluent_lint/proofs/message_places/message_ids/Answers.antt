@@ -1,5 +1,5 @@
 use Rattle.std.proofs.Common.{◌∙◌, [], ap, map, subst}
-use Rattle.lint_endless.specs.HasNames.{HasNames}
+use Rattle.lint_nodes.specs.HasNames.{HasNames}
 use Rattle.lint_entries.specs.TileView.{tile_view}
 use Rattle.lint_findings.specs.Comparison.{union}
 use Rattle.fluent_lint.specs.Pairs.{ids_of_parts}

@@ -1,7 +1,7 @@
 use Rattle.std.proofs.Common.{◌∙◌, ap, map, subst, sym}
 use Rattle.std.proofs.lemmas.List.{take_all}
-use Rattle.lint_endless.specs.HasNames.{HasNames}
-use Rattle.lint_endless.proofs.Unions.{union-append}
+use Rattle.lint_nodes.specs.HasNames.{HasNames}
+use Rattle.lint_nodes.proofs.Unions.{union-append}
 use Rattle.lint_entries.specs.TileView.{tile_view}
 use Rattle.lint_findings.specs.Comparison.{union}
 use Rattle.fluent_lint.specs.MessagePlaces.{GetsIds}

@@ -1,6 +1,6 @@
 use Rattle.std.proofs.Common.{◌∙◌, ◌++◌, List, ap, sym, subst, map}
 use Rattle.std.proofs.lemmas.List.{take_all}
-use Rattle.lint_finding.specs.View.{findings_view}
+use Rattle.lint_findings.specs.View.{findings_view}
 use Rattle.lint_findings.specs.Findings.{findings_in}
 use Rattle.fluent_ids.specs.IdsView.{ids_view}
 use Rattle.lint_comparison.specs.Missing.{missing_in}

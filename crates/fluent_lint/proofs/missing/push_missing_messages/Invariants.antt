@@ -1,5 +1,5 @@
 use Rattle.std.proofs.Common.{◌≡◌, ◌++◌, map, take}
-use Rattle.lint_finding.specs.View.{findings_view}
+use Rattle.lint_findings.specs.View.{findings_view}
 use Rattle.fluent_ids.specs.IdsView.{ids_view}
 use Rattle.fluent_lint.specs.Missing.{missing_in_files}
 use Rattle.fluent_lint.proofs.Counted.{view_of}

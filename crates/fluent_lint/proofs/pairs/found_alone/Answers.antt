@@ -1,5 +1,5 @@
 use Rattle.std.proofs.Common.{◌∙◌, ◌++◌, None, List, ap, ap₂, map}
-use Rattle.lint_finding.specs.View.{file_view, finding_view}
+use Rattle.lint_findings.specs.View.{file_view, finding_view}
 use Rattle.lint_findings.specs.Finding.{Finding}
 use Rattle.fluent_lint.specs.Pairs.{by_place}
 use Rattle.fluent_lint.specs.Taken.{taken}

@@ -3,7 +3,7 @@ use Rattle.std.proofs.lemmas.Result.{IfOk-weaker}
 use Rattle.lint_entries.specs.TileView.{tile_view}
 use Rattle.lint_files.specs.PartFindings.{findings_of_parts}
 use Rattle.lint_files.specs.RulesView.{rules_view}
-use Rattle.lint_finding.specs.View.{file_view}
+use Rattle.lint_findings.specs.View.{file_view}
 use Rattle.lint_findings.specs.SyntaxFindings.{syntax_findings}
 use Rattle.lint_findings.specs.Tiles.{tiles}
 use Rattle.fluent_lint.proofs.pairs.found_in_file.Goals as goal

@@ -2,7 +2,7 @@ use Rattle.std.proofs.Common.{◌≡◌, ◌∙◌, ◌++◌, List, Some, ap, ap
 use Rattle.fluent_ids.specs.IdsView.{ids_view}
 use Rattle.lint_entries.specs.First.{AreFirst}
 use Rattle.lint_files.specs.RulesView.{rules_view}
-use Rattle.lint_finding.specs.View.{finding_view}
+use Rattle.lint_findings.specs.View.{finding_view}
 use Rattle.lint_findings.specs.Finding.{Finding}
 use Rattle.fluent_lint.specs.Pairs.{by_place, found_in_file, gaps, new_among, own_ids}
 use Rattle.fluent_lint.specs.Shown.{differences}

@@ -1,7 +1,7 @@
 use Rattle.std.proofs.Common.{◌≡◌, ◌∙◌, None, [], ◌∷◌, ◌++◌, List, ap, ap₂, length, map, sym}
 use Rattle.std.proofs.lemmas.List.{length-map, map-append}
 use Rattle.lint_files.specs.RulesView.{rules_view}
-use Rattle.lint_finding.specs.View.{file_view, finding_view}
+use Rattle.lint_findings.specs.View.{file_view, finding_view}
 use Rattle.lint_findings.specs.Finding.{Finding}
 use Rattle.fluent_lint.specs.Lone.{obsolete_file_finding}
 use Rattle.fluent_lint.specs.Pairs.{by_place, message_ids}

@@ -1,11 +1,11 @@
 use Rattle.std.proofs.Common.{◌∙◌, List, [], None, ap, subst, sym, append-nil}
 use Rattle.fluent_ids.specs.IdsView.{ids_view}
-use Rattle.lint_endless.specs.Catalog.{AreDeclaredIn}
-use Rattle.lint_endless.specs.EndlessView.{ids_of}
+use Rattle.lint_nodes.specs.Catalog.{AreDeclaredIn}
+use Rattle.lint_nodes.specs.EndlessView.{ids_of}
 use Rattle.lint_entries.proofs.CommonIn.{in_language as common_in_language}
 use Rattle.lint_entries.specs.Terms.{is_referred}
 use Rattle.lint_files.specs.RulesView.{compare_with}
-use Rattle.lint_finding.specs.declared.records.File.{File}
+use Rattle.lint_findings.specs.declared.records.File.{File}
 use Rattle.lint_findings.specs.Findings.{Rules, catalog_rules}
 use Rattle.fluent_lint.specs.FileTiles.{files_of, files_view}
 use Rattle.fluent_lint.specs.Found.{found_by_files}

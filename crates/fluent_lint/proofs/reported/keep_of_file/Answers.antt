@@ -2,8 +2,8 @@ use Rattle.std.proofs.Common.{◌∙◌, ap, map, not, rules}
 use Rattle.std.proofs.lemmas.Fn.{filter_same}
 use Rattle.fluent_grammar.specs.Words.{is_among}
 use Rattle.fluent_resource.specs.Sources.{texts}
-use Rattle.lint_finding.specs.View.{file_view, finding_view}
-use Rattle.lint_finding.specs.declared.records.Finding.{Finding}
+use Rattle.lint_findings.specs.View.{file_view, finding_view}
+use Rattle.lint_findings.specs.declared.records.Finding.{Finding}
 use Rattle.lint_findings.specs.Findings.{findings_in}
 use Rattle.fluent_lint.proofs.Kept.{kept_viewed}
 use Rattle.fluent_lint.proofs.reported.keep_of_file.Goals as goal

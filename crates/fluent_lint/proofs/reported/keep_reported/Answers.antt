@@ -2,7 +2,7 @@ use Rattle.std.proofs.Common.{◌≡◌, ◌≤◌, ◌+◌, ◌++◌, ◌∙◌
 use Rattle.std.proofs.lemmas.List.{map-set, length-map, take_all, drop_all}
 use Rattle.std.proofs.Math.ListN.{get_or-map}
 use Rattle.fluent_resource.specs.Sources.{texts}
-use Rattle.lint_finding.specs.View.{file_findings_view}
+use Rattle.lint_findings.specs.View.{file_findings_view}
 use Rattle.fluent_lint.specs.Reported.{kept_of}
 use Rattle.fluent_lint.proofs.Kept.{kept_of_each}
 use Rattle.fluent_lint.proofs.Lists.{one_changed}

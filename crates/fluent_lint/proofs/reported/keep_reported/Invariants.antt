@@ -1,6 +1,6 @@
 use Rattle.std.proofs.Common.{◌≡◌, ◌++◌, map, take, drop}
 use Rattle.fluent_resource.specs.Sources.{texts}
-use Rattle.lint_finding.specs.View.{file_findings_view}
+use Rattle.lint_findings.specs.View.{file_findings_view}
 use Rattle.fluent_lint.specs.Reported.{kept_of}
 use Rattle.fluent_lint.proofs.reported.keep_reported.Given as goal
 

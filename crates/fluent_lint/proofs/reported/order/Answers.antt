@@ -1,7 +1,7 @@
 use Rattle.std.proofs.Common.{rules}
 use Rattle.std.proofs.lemmas.List.Sorted.{answers_always, IsNonDecreasingBy-from_sort}
 use Rattle.std.proofs.lemmas.Result.{on_ok_weaker}
-use Rattle.lint_finding.specs.declared.records.Finding.{Finding}
+use Rattle.lint_findings.specs.declared.records.Finding.{Finding}
 use Rattle.fluent_lint.proofs.InOrder.{in_order-from_sort}
 use Rattle.fluent_lint.proofs.reported.order.Goals as goal
 

@@ -1,5 +1,5 @@
 use Rattle.std.proofs.Common.{Bool, List, ap₂, subst}
-use Rattle.lint_finding.specs.declared.records.File.{File}
+use Rattle.lint_findings.specs.declared.records.File.{File}
 use Rattle.fluent_grammar.specs.Words.{Text}
 use Rattle.fluent_lint.specs.LintReport.{LintReport}
 use Rattle.fluent_lint.specs.Reports.{IsReportOn}

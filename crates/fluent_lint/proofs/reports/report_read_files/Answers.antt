@@ -1,8 +1,8 @@
 use Rattle.std.proofs.Common.{◌∙◌, List, Some, ap, subst, sym}
 use Rattle.std.specs.Prelude.{IfOk}
 use Rattle.fluent_ids.specs.IdsView.{ids_view}
-use Rattle.lint_endless.specs.Catalog.{AreDeclaredIn}
-use Rattle.lint_endless.specs.EndlessView.{ids_of}
+use Rattle.lint_nodes.specs.Catalog.{AreDeclaredIn}
+use Rattle.lint_nodes.specs.EndlessView.{ids_of}
 use Rattle.lint_entries.proofs.CommonIn.{in_language as common_in_language}
 use Rattle.lint_entries.specs.Terms.{is_referred}
 use Rattle.lint_files.specs.RulesView.{compare_with}

@@ -1,6 +1,6 @@
 use Rattle.std.proofs.Common.{◌∙◌, ◌++◌, ap, ap₂, map}
 use Rattle.std.proofs.lemmas.List.{map-append}
-use Rattle.lint_finding.specs.View.{finding_view}
+use Rattle.lint_findings.specs.View.{finding_view}
 use Rattle.lint_findings.specs.Finding.{Finding}
 use Rattle.fluent_lint.specs.Pairs.{by_place}
 use Rattle.fluent_lint.specs.Silence.{unused_among}

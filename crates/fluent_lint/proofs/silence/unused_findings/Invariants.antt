@@ -1,5 +1,5 @@
 use Rattle.std.proofs.Common.{◌≡◌, ◌++◌, drop, map}
-use Rattle.lint_finding.specs.View.{finding_view}
+use Rattle.lint_findings.specs.View.{finding_view}
 use Rattle.fluent_lint.specs.Silence.{unused_among}
 use Rattle.fluent_lint.specs.SilenceView.{silences_view}
 use Rattle.fluent_lint.proofs.silence.unused_findings.Given as goal

@@ -3,7 +3,7 @@ use Rattle.std.proofs.lemmas.List.{take_all}
 use Rattle.lint_entries.specs.First.{AreFirst}
 use Rattle.lint_entries.specs.TileView.{tile_view}
 use Rattle.lint_entries.specs.declared.tile.Tile.{Tile}
-use Rattle.lint_finding.specs.View.{file_view, finding_view}
+use Rattle.lint_findings.specs.View.{file_view, finding_view}
 use Rattle.fluent_lint.specs.Taken.{met_before, met_through, taken_from}
 use Rattle.fluent_lint.specs.TakenView.{AreMet, original_view}
 use Rattle.fluent_lint.proofs.TakenSteps.{met_next, taken_next}

@@ -1,8 +1,8 @@
 use Rattle.std.proofs.Common.{◌≡◌, ◌++◌, List, map, take}
 use Rattle.lint_entries.specs.First.{AreFirst}
 use Rattle.lint_entries.specs.TileView.{tile_view}
-use Rattle.lint_finding.specs.PlaceView.{IsPlaceIn}
-use Rattle.lint_finding.specs.View.{file_view, finding_view}
+use Rattle.lint_findings.specs.PlaceView.{IsPlaceIn}
+use Rattle.lint_findings.specs.View.{file_view, finding_view}
 use Rattle.lint_findings.specs.DuplicateIds.{Declaration}
 use Rattle.fluent_lint.specs.Taken.{met_before, met_through, taken_from}
 use Rattle.fluent_lint.specs.TakenView.{AreMet, original_view}

@@ -1,5 +1,5 @@
 use Rattle.std.proofs.Common.{◌≡◌, take}
-use Rattle.lint_finding.specs.View.{findings_view}
+use Rattle.lint_findings.specs.View.{findings_view}
 use Rattle.fluent_lint.specs.Counting.{is_counted}
 use Rattle.fluent_lint.specs.Totals.{found_count}
 use Rattle.fluent_lint.proofs.totals.count.Given as goal

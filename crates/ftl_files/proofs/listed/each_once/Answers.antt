@@ -1,7 +1,7 @@
 use Rattle.std.proofs.Common.{◌≡◌, ◌∙◌, [], ◌∷◌, ap, map, take, string_bytes, subst, sym}
 use Rattle.std.proofs.lemmas.List.{take_all}
-use Rattle.lint_endless.specs.HasNames.{HasNames, texts}
-use Rattle.lint_endless.proofs.Unions.{union-append}
+use Rattle.lint_nodes.specs.HasNames.{HasNames, texts}
+use Rattle.lint_nodes.proofs.Unions.{union-append}
 use Rattle.lint_findings.specs.Comparison.{union}
 use Rattle.ftl_files.proofs.ListedLemmas.{more_names}
 use Rattle.ftl_files.proofs.listed.each_once.Goals as goal

@@ -1,5 +1,5 @@
 use Rattle.std.proofs.Common.{[], map, take, string_bytes}
-use Rattle.lint_endless.specs.HasNames.{HasNames}
+use Rattle.lint_nodes.specs.HasNames.{HasNames}
 use Rattle.lint_findings.specs.Comparison.{union}
 use Rattle.ftl_files.proofs.listed.each_once.Given as goal
 

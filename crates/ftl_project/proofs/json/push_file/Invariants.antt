@@ -1,5 +1,5 @@
 use Rattle.std.proofs.Common.{option_copied, string_bytes}
-use Rattle.lint_finding.specs.PlaceView.{IsPlaceIn}
+use Rattle.lint_findings.specs.PlaceView.{IsPlaceIn}
 use Rattle.lint_report.proofs.Items.{PiecesSoFar}
 use Rattle.lint_report.specs.View.{in_file}
 use Rattle.ftl_project.specs.JsonLines.{json_piece}

@@ -1,6 +1,6 @@
 use Rattle.std.proofs.Common.{◌∙◌, ◌++◌, ap, option_copied, string_bytes}
 use Rattle.std.specs.List.{flat_map}
-use Rattle.lint_finding.specs.View.{file_findings_view, findings_view}
+use Rattle.lint_findings.specs.View.{file_findings_view, findings_view}
 use Rattle.lint_report.proofs.Items.{pieces_at_last}
 use Rattle.ftl_project.specs.JsonLines.{json_piece}
 use Rattle.ftl_project.proofs.Pieces.{json_shown, of_files}

@@ -1,7 +1,7 @@
 use Rattle.std.proofs.Common.{◌≡◌, ◌∙◌, ◌++◌, ◌∷◌, [], List, length, refl, sym, ap, append-nil, append_assoc, arith}
 use Rattle.std.proofs.lemmas.List.Concat.{flat_map-append}
 use Rattle.std.specs.Vec.Iter.{into_iter_items}
-use Rattle.lint_finding.specs.View.{file_findings_view, findings_view}
+use Rattle.lint_findings.specs.View.{file_findings_view, findings_view}
 use Rattle.ftl_project.specs.Reports.{all_found, groups_view}
 use Rattle.ftl_project.proofs.report.all_found.Goals as goal
 

@@ -1,6 +1,6 @@
 use Rattle.std.proofs.Common.{◌≡◌, ◌++◌, length}
 use Rattle.std.specs.Vec.Iter.{into_iter_items, into_iter_len}
-use Rattle.lint_finding.specs.View.{findings_view}
+use Rattle.lint_findings.specs.View.{findings_view}
 use Rattle.ftl_project.specs.Reports.{all_found, groups_view}
 use Rattle.ftl_project.proofs.report.all_found.Given as goal
 

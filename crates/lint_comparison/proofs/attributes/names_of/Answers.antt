@@ -2,10 +2,10 @@ use Rattle.std.proofs.Common.{◌∙◌, [], ◌∷◌, sym, ap, subst, take}
 use Rattle.std.proofs.lemmas.List.{take_all}
 use Rattle.fluent_ast.specs.Borrowed.{attributes_of}
 use Rattle.lint_findings.specs.Comparison.{union}
-use Rattle.lint_endless.specs.HasNames.{HasNames}
+use Rattle.lint_nodes.specs.HasNames.{HasNames}
 use Rattle.lint_comparison.specs.LackingAttributes.{known_names, names_of}
 use Rattle.lint_comparison.proofs.LackedNames.{more_names}
-use Rattle.lint_endless.proofs.Unions.{union-append}
+use Rattle.lint_nodes.proofs.Unions.{union-append}
 use Rattle.lint_comparison.proofs.attributes.names_of.Goals as goal
 
 pub loop-attribute-preserved : goal.loop-attribute-preserved

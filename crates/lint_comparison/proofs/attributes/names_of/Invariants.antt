@@ -1,6 +1,6 @@
 use Rattle.std.proofs.Common.{take}
 use Rattle.fluent_ast.specs.Borrowed.{attributes_of}
-use Rattle.lint_endless.specs.HasNames.{HasNames}
+use Rattle.lint_nodes.specs.HasNames.{HasNames}
 use Rattle.lint_comparison.specs.LackingAttributes.{known_names}
 use Rattle.lint_comparison.proofs.attributes.names_of.Given as goal
 

@@ -4,7 +4,7 @@ use Rattle.fluent_ast.specs.Borrowed.{attributes_of}
 use Rattle.lint_comparison.specs.Lacks.{lacking}
 use Rattle.lint_comparison.specs.LackingAttributes.{names_of}
 use Rattle.lint_comparison.proofs.LackedNames.{next_attribute}
-use Rattle.lint_finding.specs.DifferenceView.{difference_view}
+use Rattle.lint_findings.specs.DifferenceView.{difference_view}
 use Rattle.lint_comparison.proofs.attributes.push_lacking.Goals as goal
 
 pub loop-attribute-init : goal.loop-attribute-init

@@ -1,9 +1,9 @@
 use Rattle.std.proofs.Common.{◌≡◌, ◌++◌, List, map, take}
 use Rattle.fluent_ast.specs.Borrowed.{attributes_of}
-use Rattle.lint_endless.specs.HasNames.{HasNames}
+use Rattle.lint_nodes.specs.HasNames.{HasNames}
 use Rattle.lint_comparison.specs.Lacks.{lacking}
 use Rattle.lint_comparison.specs.LackingAttributes.{names_of}
-use Rattle.lint_finding.specs.DifferenceView.{difference_view}
+use Rattle.lint_findings.specs.DifferenceView.{difference_view}
 use Rattle.fluent_grammar.specs.Words.{Text}
 use Rattle.lint_comparison.proofs.attributes.push_lacking.Given as goal
 

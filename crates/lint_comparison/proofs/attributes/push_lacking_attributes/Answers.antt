@@ -4,7 +4,7 @@ use Rattle.fluent_ast.specs.Borrowed.{attributes_of}
 use Rattle.lint_comparison.specs.Lacks.{lack_of}
 use Rattle.lint_comparison.specs.LackingAttributes.{known_names, names_of}
 use Rattle.lint_comparison.proofs.LackedNames.{without_each}
-use Rattle.lint_finding.specs.DifferenceView.{difference_view}
+use Rattle.lint_findings.specs.DifferenceView.{difference_view}
 use Rattle.lint_comparison.proofs.attributes.push_lacking_attributes.Goals as goal
 
 pub returns : goal.returns

@@ -1,6 +1,6 @@
 use Rattle.std.proofs.Common.{◌∙◌, refl, sym, ap, arith}
 use Rattle.std.proofs.lemmas.List.{drop_all}
-use Rattle.lint_endless.specs.HasNames.{texts}
+use Rattle.lint_nodes.specs.HasNames.{texts}
 use Rattle.lint_findings.specs.Comparison.{has_new}
 use Rattle.lint_comparison.proofs.NewNames.{known_passed, new_found}
 use Rattle.lint_comparison.proofs.compared.has_new.Goals as goal

@@ -1,6 +1,6 @@
 use Rattle.std.proofs.Common.{◌≡◌, List, drop}
 use Rattle.fluent_grammar.specs.Words.{Text}
-use Rattle.lint_endless.specs.HasNames.{HasNames, texts}
+use Rattle.lint_nodes.specs.HasNames.{HasNames, texts}
 use Rattle.lint_findings.specs.Comparison.{has_new}
 use Rattle.lint_comparison.proofs.compared.has_new.Given as goal
 

@@ -1,5 +1,5 @@
 use Rattle.std.proofs.Common.{◌∙◌, ap}
-use Rattle.lint_endless.specs.HasNames.{texts}
+use Rattle.lint_nodes.specs.HasNames.{texts}
 use Rattle.lint_findings.specs.Comparison.{has_new, variables_of}
 use Rattle.fluent_ids.specs.IdsView.{ids_view}
 use Rattle.lint_comparison.proofs.ComparedParts.{variables_added}

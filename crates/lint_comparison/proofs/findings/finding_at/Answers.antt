@@ -1,6 +1,6 @@
 use Rattle.std.proofs.Common.{◌∙◌, option_map, string_bytes}
 use Rattle.std.proofs.lemmas.Result.{IfOk-weaker}
-use Rattle.lint_finding.specs.DifferenceView.{difference_view}
+use Rattle.lint_findings.specs.DifferenceView.{difference_view}
 use Rattle.lint_comparison.proofs.Hinting.{hinted_finding}
 use Rattle.lint_comparison.proofs.findings.finding_at.Goals as goal
 

@@ -1,6 +1,6 @@
 use Rattle.std.proofs.Common.{◌∙◌, ap, map}
 use Rattle.std.proofs.lemmas.List.{take_all}
-use Rattle.lint_finding.specs.DifferenceView.{difference_view}
+use Rattle.lint_findings.specs.DifferenceView.{difference_view}
 use Rattle.lint_findings.specs.ComparisonFindings.{difference_finding}
 use Rattle.lint_comparison.proofs.FindingsAdded.{next_finding}
 use Rattle.lint_comparison.proofs.findings.findings_at.Goals as goal

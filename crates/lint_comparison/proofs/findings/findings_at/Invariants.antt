@@ -1,9 +1,9 @@
 use Rattle.std.proofs.Common.{◌≡◌, List, map, take}
-use Rattle.lint_finding.specs.DifferenceView.{difference_view}
-use Rattle.lint_finding.specs.View.{finding_view}
+use Rattle.lint_findings.specs.DifferenceView.{difference_view}
+use Rattle.lint_findings.specs.View.{finding_view}
 use Rattle.lint_findings.specs.ComparisonFindings.{difference_finding}
 use Rattle.fluent_grammar.specs.Words.{Text}
-use Rattle.lint_endless.specs.HasNames.{HasNames}
+use Rattle.lint_nodes.specs.HasNames.{HasNames}
 use Rattle.lint_comparison.proofs.findings.findings_at.Given as goal
 
 -- those of the differences so far

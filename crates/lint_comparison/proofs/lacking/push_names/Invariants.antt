@@ -1,5 +1,5 @@
 use Rattle.std.proofs.Common.{◌≡◌, ◌++◌, map, drop}
-use Rattle.lint_endless.specs.HasNames.{texts}
+use Rattle.lint_nodes.specs.HasNames.{texts}
 use Rattle.lint_comparison.specs.LackingView.{names_in}
 use Rattle.lint_comparison.specs.LossView.{loss_view}
 use Rattle.lint_comparison.proofs.lacking.push_names.Given as goal

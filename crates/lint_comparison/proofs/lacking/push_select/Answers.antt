@@ -1,7 +1,7 @@
 use Rattle.std.proofs.Common.{◌∙◌, ◌++◌, ap, sym, map}
 use Rattle.std.proofs.lemmas.Result.{on_ok_weaker}
 use Rattle.fluent_ast.specs.Borrowed.{elements_of, variants_of}
-use Rattle.lint_endless.specs.HasNames.{texts}
+use Rattle.lint_nodes.specs.HasNames.{texts}
 use Rattle.lint_comparison.specs.LossView.{found_pattern, loss_view, nodes_of}
 use Rattle.lint_comparison.proofs.LossesAdded.{default_found}
 use Rattle.lint_comparison.proofs.lacking.push_select.Goals as goal

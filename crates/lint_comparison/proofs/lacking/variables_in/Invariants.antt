@@ -1,7 +1,7 @@
 use Rattle.std.proofs.Common.{◌≡◌, List, [], map, drop}
 use Rattle.std.specs.List.{flat_map}
 use Rattle.fluent_grammar.specs.Words.{Text}
-use Rattle.lint_endless.specs.HasNames.{HasNames}
+use Rattle.lint_nodes.specs.HasNames.{HasNames}
 use Rattle.lint_findings.specs.Comparison.{union}
 use Rattle.lint_findings.specs.Losses.{variable_of}
 use Rattle.lint_nodes.specs.NodeView.{node_view}

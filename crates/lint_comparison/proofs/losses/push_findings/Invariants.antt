@@ -1,5 +1,5 @@
 use Rattle.std.proofs.Common.{◌≡◌, ◌++◌, map, drop}
-use Rattle.lint_finding.specs.View.{finding_view}
+use Rattle.lint_findings.specs.View.{finding_view}
 use Rattle.lint_comparison.specs.LossView.{losses_at}
 use Rattle.lint_comparison.proofs.losses.push_findings.Given as goal
 

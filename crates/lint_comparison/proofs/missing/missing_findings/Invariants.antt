@@ -1,6 +1,6 @@
 use Rattle.std.proofs.Common.{◌≡◌, map, take}
 use Rattle.std.specs.List.{flat_map}
-use Rattle.lint_finding.specs.View.{finding_view}
+use Rattle.lint_findings.specs.View.{finding_view}
 use Rattle.fluent_ids.specs.IdsView.{ids_view}
 use Rattle.lint_comparison.specs.Missing.{missing_of_part}
 use Rattle.lint_entries.specs.TileView.{tile_view}

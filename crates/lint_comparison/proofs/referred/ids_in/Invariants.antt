@@ -1,5 +1,5 @@
 use Rattle.std.proofs.Common.{◌≡◌, take}
-use Rattle.lint_endless.specs.HasNames.{texts}
+use Rattle.lint_nodes.specs.HasNames.{texts}
 use Rattle.lint_comparison.specs.Referred.{named_by, trees_ids}
 use Rattle.lint_comparison.proofs.referred.ids_in.Given as goal
 

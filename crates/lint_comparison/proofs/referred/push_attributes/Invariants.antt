@@ -1,6 +1,6 @@
 use Rattle.std.proofs.Common.{◌≡◌, ◌++◌, take}
 use Rattle.fluent_ast.specs.Borrowed.{attributes_of}
-use Rattle.lint_endless.specs.HasNames.{texts}
+use Rattle.lint_nodes.specs.HasNames.{texts}
 use Rattle.lint_comparison.specs.Referred.{attribute_ids, named_by}
 use Rattle.lint_comparison.proofs.referred.push_attributes.Given as goal
 

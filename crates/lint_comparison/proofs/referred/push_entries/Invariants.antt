@@ -1,6 +1,6 @@
 use Rattle.std.proofs.Common.{◌≡◌, ◌++◌, map, take}
 use Rattle.fluent_ast.specs.Borrowed.{entry_of}
-use Rattle.lint_endless.specs.HasNames.{texts}
+use Rattle.lint_nodes.specs.HasNames.{texts}
 use Rattle.lint_comparison.specs.Referred.{entries_ids, named_by}
 use Rattle.lint_comparison.proofs.referred.push_entries.Given as goal
 

@@ -1,7 +1,7 @@
 use Rattle.std.proofs.Common.{ap}
 use Rattle.std.proofs.lemmas.Result.{on_ok_weaker}
 use Rattle.fluent_ast.specs.Borrowed.{attributes_of, entry_of, message_of, term_of}
-use Rattle.lint_endless.specs.HasNames.{texts}
+use Rattle.lint_nodes.specs.HasNames.{texts}
 use Rattle.lint_comparison.proofs.Naming.{message_added, term_added}
 use Rattle.lint_comparison.proofs.referred.push_entry.Goals as goal
 

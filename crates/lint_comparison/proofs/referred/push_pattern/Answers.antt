@@ -2,7 +2,7 @@ use Rattle.std.proofs.Common.{◌∙◌, ◌++◌, ap, map}
 use Rattle.std.specs.List.{flat_map}
 use Rattle.std.proofs.lemmas.List.{take_all}
 use Rattle.fluent_ast.specs.Borrowed.{elements_of}
-use Rattle.lint_endless.specs.HasNames.{texts}
+use Rattle.lint_nodes.specs.HasNames.{texts}
 use Rattle.lint_nodes.specs.NodeView.{node_view}
 use Rattle.lint_comparison.specs.Referred.{named_by, node_ids}
 use Rattle.lint_comparison.proofs.Naming.{nodes_ids}

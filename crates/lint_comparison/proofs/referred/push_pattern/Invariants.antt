@@ -1,6 +1,6 @@
 use Rattle.std.proofs.Common.{◌≡◌, ◌++◌, map, take}
 use Rattle.std.specs.List.{flat_map}
-use Rattle.lint_endless.specs.HasNames.{texts}
+use Rattle.lint_nodes.specs.HasNames.{texts}
 use Rattle.lint_nodes.specs.NodeView.{node_view}
 use Rattle.lint_comparison.specs.Referred.{named_by, node_ids}
 use Rattle.lint_comparison.proofs.referred.push_pattern.Given as goal

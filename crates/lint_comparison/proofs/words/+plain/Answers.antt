@@ -1,6 +1,6 @@
 use Rattle.std.proofs.Common.{◌∙◌, ◌++◌, ap, sym, append-nil, arith}
 use Rattle.std.proofs.lemmas.List.{length-drop}
-use Rattle.lint_endless.specs.HasNames.{texts}
+use Rattle.lint_nodes.specs.HasNames.{texts}
 use Rattle.lint_comparison.proofs.PlainTexts.{none_of_more}
 use Rattle.lint_comparison.proofs.words.+plain.Goals as goal
 

@@ -1,6 +1,6 @@
 use Rattle.std.proofs.Common.{◌≡◌, ◌++◌, map, drop}
 use Rattle.fluent_ast.specs.View.{variant_view, variants_of}
-use Rattle.lint_endless.specs.HasNames.{texts}
+use Rattle.lint_nodes.specs.HasNames.{texts}
 use Rattle.lint_findings.specs.WrittenTexts as w
 use Rattle.lint_comparison.proofs.words.+plain.Given as goal
 

@@ -1,5 +1,5 @@
 use Rattle.std.proofs.Common.{◌≡◌, drop}
-use Rattle.lint_endless.specs.EndlessView.{ids_of}
+use Rattle.lint_nodes.specs.EndlessView.{ids_of}
 use Rattle.lint_entries.specs.FirstEndless as first
 use Rattle.lint_entries.specs.FoundAt.{nodes_of}
 use Rattle.lint_entries.proofs.endless.first_entered.Given as goal

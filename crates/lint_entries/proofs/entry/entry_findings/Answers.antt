@@ -1,7 +1,7 @@
 use Rattle.std.proofs.Common.{◌≡◌, ◌∙◌, Some, None, option_map, List, map, ap, sym, subst}
 use Rattle.std.specs.Prelude.{IfOk}
 use Rattle.fluent_ast.specs.Borrowed.{entry_of}
-use Rattle.lint_finding.specs.View.{finding_view}
+use Rattle.lint_findings.specs.View.{finding_view}
 use Rattle.lint_findings.specs.Finding.{Finding}
 use Rattle.lint_entries.specs.AttributePlaces.{bare_entry}
 use Rattle.lint_entries.specs.CatalogView.{ids_in, reference_in}

@@ -1,5 +1,5 @@
 use Rattle.std.proofs.Common.{◌∙◌, ◌-◌, ap, map}
-use Rattle.lint_finding.specs.View.{finding_view}
+use Rattle.lint_findings.specs.View.{finding_view}
 use Rattle.lint_findings.specs.Occurrences.{after_equals}
 use Rattle.fluent_ast.specs.Borrowed.{attributes_of}
 use Rattle.lint_entries.specs.PartsView.{parts_view, value_of}

@@ -1,7 +1,7 @@
 use Rattle.std.proofs.Common.{◌∙◌, ◌+◌, [], ◌∷◌, ◌++◌, map, drop, refl, sym, ap, subst, append-nil}
 use Rattle.fluent_ast.specs.Borrowed.{attribute_of}
 use Rattle.lint_findings.specs.Occurrences.{pattern_read}
-use Rattle.lint_finding.specs.View.{finding_view}
+use Rattle.lint_findings.specs.View.{finding_view}
 use Rattle.lint_entries.specs.AttributePlaces.{AreAttributesAt}
 use Rattle.lint_entries.specs.AttributesFound.{attributes_found}
 use Rattle.lint_entries.proofs.AttributesAdded.{others_there, one_added, value_there}

@@ -1,7 +1,7 @@
 use Rattle.std.proofs.Common.{◌≡◌, ◌++◌, List, [], map, drop}
 use Rattle.fluent_ast.specs.View.{attribute_view}
 use Rattle.fluent_grammar.specs.Words.{Text}
-use Rattle.lint_finding.specs.View.{finding_view}
+use Rattle.lint_findings.specs.View.{finding_view}
 use Rattle.lint_entries.specs.AttributePlaces.{AreAttributesAt}
 use Rattle.lint_entries.specs.AttributesFound.{attributes_found}
 use Rattle.lint_entries.specs.HasNames.{HasNames}

@@ -1,5 +1,5 @@
 use Rattle.std.proofs.Common.{◌∙◌, ◌+◌, ap, drop, map}
-use Rattle.lint_finding.specs.View.{finding_view}
+use Rattle.lint_findings.specs.View.{finding_view}
 use Rattle.lint_findings.specs.EntryFindings as e
 use Rattle.lint_nodes.specs.NodeView.{node_view}
 use Rattle.lint_nodes.specs.OccurrenceView.{occurrence_view}

@@ -1,5 +1,5 @@
 use Rattle.std.proofs.Common.{◌≡◌, ◌++◌, map, drop}
-use Rattle.lint_finding.specs.View.{finding_view}
+use Rattle.lint_findings.specs.View.{finding_view}
 use Rattle.lint_nodes.specs.OccurrenceView.{occurrence_view}
 use Rattle.lint_entries.specs.FoundAt.{occurrences_found}
 use Rattle.lint_entries.proofs.nodes.push_occurrences.Given as goal

@@ -1,7 +1,7 @@
 use Rattle.std.proofs.Common.{◌≡◌, ◌∷◌, [], ◌++◌, List, length, map, refl, sym, ap, ◌∙◌, append-nil, arith}
 use Rattle.std.specs.Vec.Iter.{into_iter_items}
-use Rattle.lint_finding.specs.View.{finding_view, remark_view}
-use Rattle.lint_finding.specs.declared.remark.Remark.{Remark}
+use Rattle.lint_findings.specs.View.{finding_view, remark_view}
+use Rattle.lint_findings.specs.declared.remark.Remark.{Remark}
 use Rattle.lint_findings.specs.Finding as f
 use Rattle.lint_entries.specs.Made.{made_of}
 use Rattle.lint_entries.specs.declared.finding.EntryPoint.{EntryPoint}

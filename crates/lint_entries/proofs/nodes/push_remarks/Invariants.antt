@@ -1,6 +1,6 @@
 use Rattle.std.proofs.Common.{◌≡◌, ◌++◌, length, map}
 use Rattle.std.specs.Vec.Iter.{into_iter_items, into_iter_len}
-use Rattle.lint_finding.specs.View.{finding_view, remark_view}
+use Rattle.lint_findings.specs.View.{finding_view, remark_view}
 use Rattle.lint_entries.specs.Made.{made_of}
 use Rattle.lint_entries.proofs.nodes.push_remarks.Given as goal
 

@@ -1,8 +1,10 @@
 use Rattle.std.proofs.Common.{◌∙◌, ◌++◌, None, ap, map, refl, sym}
 use Rattle.fluent_ast.specs.Borrowed.{elements_of}
-use Rattle.lint_finding.specs.View.{finding_view}
+use Rattle.lint_findings.specs.View.{finding_view}
+use Rattle.lint_findings.specs.Encodings.{wrong_encodings}
 use Rattle.lint_findings.specs.EntryFindings.{finding_in, read_text}
 use Rattle.lint_findings.specs.Letters.{letters}
+use Rattle.lint_findings.specs.Scripts.{mixed_words}
 use Rattle.lint_nodes.specs.OccurrenceView.{occurrence_view}
 use Rattle.lint_entries.specs.CatalogView.{ids_in, reference_in}
 use Rattle.lint_entries.specs.FoundAt.{nodes_of}
@@ -22,4 +24,7 @@ returns-clause-added c =
     (map occurrence_view walked) (ap (map occurrence_view) c.deref-2.ensures.value ∙ c.in_ok-found.ensures.occurrences) (nodes_of c.deref.result.now) (ap nodes_of (c.deref.ensures.value ∙ sym c.deref-2.ensures.value) ∙ nodes_are walked)
     (map finding_view c.args.findings.now.items) (map finding_view c.push_endless.new.findings.items) (map finding_view c.push_occurrences.new.findings.items) (map finding_view c.push_letters.new.findings.items)
     c.in_ok-push_endless.ensures c.in_ok-push_occurrences.ensures
-    (c.in_ok-push_letters.ensures ∙ ap (λ r. map finding_view c.push_occurrences.new.findings.items ++ map (finding_in name.source.now (label_text name.label) c.args.text.now) (letters (read_text c.args.text.now r))) (sym c.in_ok-found.ensures.rest))
+    (c.in_ok-push_letters.ensures
+    ∙ ap (λ w. map finding_view c.push_occurrences.new.findings.items
+    ++ map (finding_in name.source.now (label_text name.label) c.args.text.now) (letters w ++ (mixed_words w ++ wrong_encodings w)))
+    (ap (read_text c.args.text.now) (sym c.in_ok-found.ensures.rest)))

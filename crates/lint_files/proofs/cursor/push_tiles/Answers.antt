@@ -6,7 +6,7 @@ use Rattle.lint_files.specs.Pushes.{found_from}
 use Rattle.lint_files.specs.RulesView.{rules_view}
 use Rattle.lint_entries.specs.First.{AreFirst}
 use Rattle.lint_entries.proofs.Pushed.{next}
-use Rattle.lint_finding.specs.View.{file_view, finding_view}
+use Rattle.lint_findings.specs.View.{file_view, finding_view}
 use Rattle.lint_entries.specs.TileView.{IsReadPart, tile_view}
 use Rattle.lint_files.proofs.TilesPushed.{one_declared}
 use Rattle.lint_files.proofs.cursor.push_tiles.Goals as goal

@@ -3,7 +3,7 @@ use Rattle.lint_files.specs.PartFindings.{declared_by_parts}
 use Rattle.lint_files.specs.Pushes.{IsCursorIn, found_from}
 use Rattle.lint_files.specs.RulesView.{rules_view}
 use Rattle.lint_entries.specs.First.{AreFirst}
-use Rattle.lint_finding.specs.View.{file_view, finding_view}
+use Rattle.lint_findings.specs.View.{file_view, finding_view}
 use Rattle.lint_findings.specs.DuplicateIds.{Declaration}
 use Rattle.lint_entries.specs.TileView.{tile_view}
 use Rattle.lint_files.proofs.cursor.push_tiles.Given as goal

@@ -1,7 +1,7 @@
 use Rattle.std.proofs.Common.{◌∙◌, ◌≡◌, Some, map, option_map, sym, ap}
 use Rattle.fluent_ast.specs.Borrowed.{entry_of}
 use Rattle.lint_files.specs.RulesView.{rules_view}
-use Rattle.lint_finding.specs.View.{file_view, finding_view}
+use Rattle.lint_findings.specs.View.{file_view, finding_view}
 use Rattle.lint_findings.specs.DuplicateIds.{duplicate_findings, id_of}
 use Rattle.lint_files.proofs.EntryPushed.{entry_added}
 use Rattle.lint_files.proofs.entry.push_entry.Goals as goal

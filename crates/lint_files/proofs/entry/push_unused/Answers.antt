@@ -3,7 +3,7 @@ use Rattle.std.proofs.lemmas.Result.{on_ok_weaker}
 use Rattle.fluent_ast.specs.Borrowed.{entry_of}
 use Rattle.lint_files.specs.PartFindings.{offset_in}
 use Rattle.lint_files.specs.RulesView.{rules_view}
-use Rattle.lint_finding.specs.View.{file_view, finding_view}
+use Rattle.lint_findings.specs.View.{file_view, finding_view}
 use Rattle.lint_files.proofs.EntryPushed.{same_unused}
 use Rattle.lint_files.proofs.entry.push_unused.Goals as goal
 

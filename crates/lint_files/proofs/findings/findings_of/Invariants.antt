@@ -1,6 +1,6 @@
 use Rattle.std.proofs.Common.{◌≡◌, map, take}
 use Rattle.fluent_parser.specs.Refusals.{refusal_view}
-use Rattle.lint_finding.specs.View.{finding_view}
+use Rattle.lint_findings.specs.View.{finding_view}
 use Rattle.lint_files.specs.SourceFindings.{finding_of}
 use Rattle.lint_files.proofs.findings.findings_of.Given as goal
 

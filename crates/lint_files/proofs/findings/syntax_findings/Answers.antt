@@ -8,7 +8,7 @@ use Rattle.fluent_tokens.proofs.Scanned.{test_of}
 use Rattle.fluent_parsed.specs.ErrorView.{error_told, error_view}
 use Rattle.fluent_parser.specs.Refusals.{refusal_view, refusals_from}
 use Rattle.fluent_parser.specs.declared.refusals.Refusal.{Refusal}
-use Rattle.lint_finding.specs.View.{finding_view}
+use Rattle.lint_findings.specs.View.{finding_view}
 use Rattle.lint_findings.specs.Finding.{Finding}
 use Rattle.lint_findings.specs.SyntaxFindings.{syntax_findings}
 use Rattle.lint_findings.specs.Tiles.{tiles}

@@ -1,5 +1,5 @@
 use Rattle.std.proofs.Common.{refl}
-use Rattle.lint_finding.specs.View.{remark_view}
+use Rattle.lint_findings.specs.View.{remark_view}
 use Rattle.lint_flaws.proofs.Said.{pushed}
 use Rattle.lint_flaws.proofs.adding.push_remark.Goals as goal
 

@@ -1,6 +1,6 @@
 use Rattle.std.proofs.Common.{◌≡◌, ◌++◌, map, drop}
 use Rattle.fluent_ast.specs.View.{variant_view, variants_of}
-use Rattle.lint_finding.specs.View.{remark_view}
+use Rattle.lint_findings.specs.View.{remark_view}
 use Rattle.lint_findings.specs.Facts.{fact_remark, others_facts}
 use Rattle.lint_flaws.specs.FactsBy.{keys_of}
 use Rattle.lint_flaws.proofs.attribute_texts.push_keys.Given as goal

@@ -1,6 +1,6 @@
 use Rattle.std.proofs.Common.{◌≡◌, List, ◌++◌, map, drop}
 use Rattle.fluent_ast.specs.View.{Named, named_view, nameds_of}
-use Rattle.lint_finding.specs.View.{remark_view}
+use Rattle.lint_findings.specs.View.{remark_view}
 use Rattle.lint_findings.specs.Facts.{fact_remark, named_facts}
 use Rattle.lint_nodes.specs.NodeView.{node_view}
 use Rattle.lint_flaws.proofs.facts.push_named.Given as goal

@@ -1,5 +1,5 @@
 use Rattle.std.proofs.Common.{◌∙◌, ℕ, ◌+◌, Bool, ◌++◌, map, drop, get_or, refl, ap}
-use Rattle.lint_finding.specs.View.{remark_view}
+use Rattle.lint_findings.specs.View.{remark_view}
 use Rattle.lint_findings.specs.Letters.{letters_from, begins_after}
 use Rattle.lint_flaws.proofs.LetterSteps.{letters_added}
 use Rattle.lint_flaws.proofs.letters.letter_remarks.Goals as goal

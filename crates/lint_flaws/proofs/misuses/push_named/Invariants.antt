@@ -1,6 +1,6 @@
 use Rattle.std.proofs.Common.{◌≡◌, ◌++◌, map, drop}
 use Rattle.fluent_ast.specs.View.{named_view, nameds_of}
-use Rattle.lint_finding.specs.View.{remark_view}
+use Rattle.lint_findings.specs.View.{remark_view}
 use Rattle.lint_findings.specs.Misuses.{misuse_remark, named_misuses}
 use Rattle.lint_flaws.specs.BuiltinView.{builtin_view}
 use Rattle.lint_flaws.proofs.misuses.push_named.Given as goal

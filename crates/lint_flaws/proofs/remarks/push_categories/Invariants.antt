@@ -1,5 +1,5 @@
 use Rattle.std.proofs.Common.{◌≡◌, ◌++◌, map, drop}
-use Rattle.lint_finding.specs.View.{remark_view}
+use Rattle.lint_findings.specs.View.{remark_view}
 use Rattle.lint_findings.specs.EntryFindings.{category_remark}
 use Rattle.lint_flaws.proofs.remarks.push_categories.Given as goal
 

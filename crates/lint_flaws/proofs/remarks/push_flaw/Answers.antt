@@ -1,5 +1,5 @@
 use Rattle.std.proofs.Common.{◌∙◌, ◌++◌, ap, map}
-use Rattle.lint_finding.specs.View.{remark_view}
+use Rattle.lint_findings.specs.View.{remark_view}
 use Rattle.lint_findings.specs.EntryFindings.{flaw_remark, node_flaws}
 use Rattle.lint_flaws.specs.FlawView.{flaw_view}
 use Rattle.lint_flaws.specs.Said.{known}

@@ -1,5 +1,5 @@
 use Rattle.lint_findings.specs.Summary.{reference_summary}
-use Rattle.lint_finding.specs.View.{file_view, findings_view}
+use Rattle.lint_findings.specs.View.{file_view, findings_view}
 use Rattle.lint_report.proofs.Lists.{SummedSoFar}
 use Rattle.lint_report.proofs.files.push_of_reference.Given as goal
 

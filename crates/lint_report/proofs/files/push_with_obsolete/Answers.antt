@@ -1,6 +1,6 @@
 use Rattle.std.proofs.Common.{◌∙◌, ◌++◌, ap, map}
 use Rattle.lint_findings.specs.Summary.{catalog_summary}
-use Rattle.lint_finding.specs.View.{file_view, findings_view}
+use Rattle.lint_findings.specs.View.{file_view, findings_view}
 use Rattle.lint_report.specs.ReportView.{summary_view}
 use Rattle.lint_report.proofs.Lists.{of_files, summed_all}
 use Rattle.lint_report.proofs.files.push_with_obsolete.Goals as goal

@@ -1,5 +1,5 @@
 use Rattle.lint_findings.specs.Summary.{catalog_summary}
-use Rattle.lint_finding.specs.View.{file_view, findings_view}
+use Rattle.lint_findings.specs.View.{file_view, findings_view}
 use Rattle.lint_report.proofs.Lists.{SummedSoFar}
 use Rattle.lint_report.proofs.files.push_with_obsolete.Given as goal
 

@@ -1,7 +1,7 @@
 use Rattle.std.proofs.Common.{◌∙◌, ap, sym, ◌++◌, string_bytes, option_map}
 use Rattle.lint_findings.specs.Report.{labelled_text}
 use Rattle.lint_findings.specs.ShownLine.{masked_text}
-use Rattle.lint_finding.specs.View.{finding_view}
+use Rattle.lint_findings.specs.View.{finding_view}
 use Rattle.lint_report.specs.View.{entry_label}
 use Rattle.lint_report.proofs.Characters.{wrote_second, masked_append, entry_is_text}
 use Rattle.lint_report.proofs.lines.push_masked_label.Goals as goal

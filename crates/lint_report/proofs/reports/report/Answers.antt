@@ -1,7 +1,7 @@
 use Rattle.std.proofs.Common.{◌≡◌, ◌∙◌, ap, map, string_bytes, [], ◌++◌}
 use Rattle.std.proofs.lemmas.Result.{IfOk-weaker}
 use Rattle.std.specs.List.{flat_map}
-use Rattle.lint_finding.specs.View.{file_findings_view, findings_view}
+use Rattle.lint_findings.specs.View.{file_findings_view, findings_view}
 use Rattle.lint_findings.specs.Report.{shown}
 use Rattle.lint_report.specs.Formats.{document_output, report_output, shown_piece, summaries_output}
 use Rattle.lint_report.specs.ReportView.{summary_view}

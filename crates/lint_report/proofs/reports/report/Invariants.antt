@@ -1,6 +1,6 @@
 use Rattle.std.proofs.Common.{string_bytes, []}
 use Rattle.std.specs.List.{flat_map}
-use Rattle.lint_finding.specs.View.{file_findings_view}
+use Rattle.lint_findings.specs.View.{file_findings_view}
 use Rattle.lint_report.specs.Formats.{shown_piece}
 use Rattle.lint_report.proofs.Items.{PiecesSoFar}
 use Rattle.lint_report.proofs.reports.report.Given as goal

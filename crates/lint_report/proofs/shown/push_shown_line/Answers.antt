@@ -1,5 +1,5 @@
 use Rattle.std.proofs.Common.{◌++◌, ◌∙◌, ap, sym, decimal, string_bytes}
-use Rattle.lint_finding.specs.View.{file_view, finding_view, severity_view}
+use Rattle.lint_findings.specs.View.{file_view, finding_view, severity_view}
 use Rattle.lint_findings.specs.ShownLine.{shown_line_by}
 use Rattle.lint_report.specs.ByColours.{caret_by}
 use Rattle.lint_report.specs.Texts.{caret_line, hint_line, source_line}

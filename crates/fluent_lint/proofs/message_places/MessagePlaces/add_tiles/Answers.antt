@@ -1,7 +1,7 @@
 use Rattle.std.proofs.Common.{◌∙◌, ◌++◌, ap, map, subst, sym, append-nil, append_assoc}
 use Rattle.std.proofs.lemmas.List.{take_all}
 use Rattle.lint_entries.specs.TileView.{tile_view}
-use Rattle.lint_finding.specs.View.{file_view}
+use Rattle.lint_findings.specs.View.{file_view}
 use Rattle.fluent_lint.specs.MessagePlaces.{GetsPlaces, HasPlaces}
 use Rattle.fluent_lint.specs.Pairs.{message_place, places_of_parts}
 use Rattle.fluent_lint.proofs.Loops.{front_flat}

@@ -1,6 +1,6 @@
 use Rattle.std.proofs.Common.{map, take}
 use Rattle.lint_entries.specs.TileView.{tile_view}
-use Rattle.lint_finding.specs.View.{file_view}
+use Rattle.lint_findings.specs.View.{file_view}
 use Rattle.fluent_lint.specs.MessagePlaces.{GetsPlaces}
 use Rattle.fluent_lint.specs.Pairs.{places_of_parts}
 use Rattle.fluent_lint.proofs.message_places.MessagePlaces.add_tiles.Given as goal

@@ -1,9 +1,9 @@
 use Rattle.std.proofs.Common.{◌≡◌, ◌∙◌, List, Option, Some, ap, length, map, refl, sym}
 use Rattle.std.proofs.lemmas.Option.{slice_get_read}
 use Rattle.std.specs.List.{slice_get}
-use Rattle.lint_finding.specs.View.{file_view, finding_view}
-use Rattle.lint_finding.specs.declared.records.FileFindings.{FileFindings}
-use Rattle.lint_finding.specs.declared.records.Finding.{Finding}
+use Rattle.lint_findings.specs.View.{file_view, finding_view}
+use Rattle.lint_findings.specs.declared.records.FileFindings.{FileFindings}
+use Rattle.lint_findings.specs.declared.records.Finding.{Finding}
 use Rattle.fluent_lint.specs.Translated.{FileFound}
 use Rattle.fluent_lint.proofs.ReferenceFiles.{found_there}
 use Rattle.fluent_lint.proofs.reference.ReferenceCatalog.file.Goals as goal

@@ -3,7 +3,7 @@ use Rattle.std.proofs.lemmas.Option.{slice_get_past, slice_get_read}
 use Rattle.std.proofs.lemmas.List.{length-map}
 use Rattle.std.specs.List.{slice_get}
 use Rattle.std.specs.Option.{option_map_or}
-use Rattle.lint_finding.specs.View.{file_view}
+use Rattle.lint_findings.specs.View.{file_view}
 use Rattle.fluent_lint.specs.Pairs.{message_ids}
 use Rattle.fluent_lint.specs.declared.tiles.FileTiles.{FileTiles}
 use Rattle.fluent_lint.proofs.ReferenceFiles.{said_at}

@@ -2,8 +2,8 @@ use Rattle.std.proofs.Common.{◌≡◌, ◌∙◌, List, [], Option, Some, None
 use Rattle.std.proofs.lemmas.Option.{slice_get_past, slice_get_read}
 use Rattle.std.specs.List.{slice_get}
 use Rattle.std.specs.Option.{option_map_or}
-use Rattle.lint_endless.specs.HasNames.{texts}
-use Rattle.lint_finding.specs.View.{file_view}
+use Rattle.lint_nodes.specs.HasNames.{texts}
+use Rattle.lint_findings.specs.View.{file_view}
 use Rattle.fluent_lint.specs.Pairs.{message_ids}
 use Rattle.fluent_lint.specs.declared.tiles.FileTiles.{FileTiles}
 use Rattle.fluent_lint.proofs.ReferenceFiles.{said_at}

@@ -1,5 +1,5 @@
 use Rattle.std.proofs.Common.{◌≡◌, map, take}
-use Rattle.lint_finding.specs.View.{file_view}
+use Rattle.lint_findings.specs.View.{file_view}
 use Rattle.ftl_files.specs.TidyView.{source_view}
 use Rattle.ftl_files.proofs.reading.ReadSources.files.Given as goal
 

@@ -1,9 +1,9 @@
 use Rattle.std.proofs.Common.{◌∙◌, ◌++◌, ap, map, sym, append-nil}
 use Rattle.std.proofs.lemmas.List.{take_all}
-use Rattle.lint_endless.specs.HasNames.{texts}
+use Rattle.lint_nodes.specs.HasNames.{texts}
 use Rattle.lint_comparison.specs.Lacks.{lacking}
 use Rattle.lint_comparison.proofs.LackedNames.{next_name}
-use Rattle.lint_finding.specs.DifferenceView.{difference_view}
+use Rattle.lint_findings.specs.DifferenceView.{difference_view}
 use Rattle.lint_comparison.proofs.lack.Lack.push_new.Goals as goal
 
 pub loop-name-init : goal.loop-name-init

@@ -1,7 +1,7 @@
 use Rattle.std.proofs.Common.{◌≡◌, ◌++◌, List, map, take}
-use Rattle.lint_endless.specs.HasNames.{HasNames, texts}
+use Rattle.lint_nodes.specs.HasNames.{HasNames, texts}
 use Rattle.lint_comparison.specs.Lacks.{lacking}
-use Rattle.lint_finding.specs.DifferenceView.{difference_view}
+use Rattle.lint_findings.specs.DifferenceView.{difference_view}
 use Rattle.fluent_grammar.specs.Words.{Text}
 use Rattle.lint_comparison.proofs.lack.Lack.push_new.Given as goal
 

@@ -1,6 +1,6 @@
 use Rattle.std.proofs.Common.{subst, take}
 use Rattle.std.proofs.lemmas.List.{take_all}
-use Rattle.lint_endless.specs.HasNames.{texts}
+use Rattle.lint_nodes.specs.HasNames.{texts}
 use Rattle.lint_entries.specs.Terms.{AreTermsOf}
 use Rattle.lint_entries.proofs.TermSets.{one_more_term}
 use Rattle.lint_entries.proofs.terms.ReferredTerms.of.Goals as goal

@@ -1,5 +1,5 @@
 use Rattle.std.proofs.Common.{take}
-use Rattle.lint_endless.specs.HasNames.{texts}
+use Rattle.lint_nodes.specs.HasNames.{texts}
 use Rattle.lint_entries.specs.Terms.{AreTermsOf}
 use Rattle.lint_entries.proofs.terms.ReferredTerms.of.Given as goal
 

@@ -1,8 +1,0 @@
-use Rattle.std.proofs.Common.{take}
-use Rattle.lint_endless.specs.HasReached.{GetsReferences}
-use Rattle.lint_endless.proofs.References.{nodes_references}
-use Rattle.lint_endless.proofs.reached.Reached.add_pattern.Given as goal
-
--- what the nodes so far name was added
-abbrev pub invariant-loop-node : goal.invariant-loop-node
-invariant-loop-node l = GetsReferences l.fn.self (nodes_references (take l.node-index l.node-items)) l.self

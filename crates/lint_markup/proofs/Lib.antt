@@ -1,0 +1,11 @@
+pub mod Cuts
+pub mod Signs
+pub mod TagSteps
+pub mod InTags
+pub mod Known
+pub mod EntitySteps
+pub mod Listed
+pub mod PieceSteps
+pub mod UnknownTags
+pub mod StyleParts
+pub mod MarkupSaid

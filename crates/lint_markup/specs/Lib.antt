@@ -1,0 +1,4 @@
+pub mod InCode
+pub mod Beside
+pub mod Pieces
+pub mod Wanted

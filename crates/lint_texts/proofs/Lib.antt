@@ -1,0 +1,11 @@
+pub mod PartSteps
+pub mod Named
+pub mod PlaceholderSteps
+pub mod FoundTexts
+pub mod NumberSteps
+pub mod AddressSteps
+pub mod EdgeSteps
+pub mod QuoteSteps
+pub mod Doubting
+pub mod EndSteps
+pub mod Passing

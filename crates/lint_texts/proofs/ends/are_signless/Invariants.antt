@@ -1,0 +1,9 @@
+use Rattle.std.proofs.Common.{◌≡◌, drop}
+use Rattle.std.specs.List.{list_all}
+use Rattle.lint_findings.specs.Edges as e
+use Rattle.lint_markup.specs.InCode.{texts_of}
+use Rattle.lint_texts.proofs.ends.are_signless.Given as goal
+
+-- all so far are
+abbrev pub invariant-loop-text : goal.invariant-loop-text
+invariant-loop-text l = list_all e.is_signless (texts_of (drop l.text-index l.texts)) ≡ list_all e.is_signless (texts_of l.texts)

@@ -1,0 +1,7 @@
+use Rattle.std.proofs.Common.{◌∙◌, codes, ap}
+use Rattle.fluent_grammar.specs.Words.{Text}
+use Rattle.lint_findings.specs.Finding as f
+use Rattle.lint_texts.proofs.placeholders.gone_remark.Goals as goal
+
+pub returns : goal.returns
+returns c = c.note.ensures ∙ ap (λ (text : Text). f.remark f.note (codes "changed-placeholder") text) c.in_ok-text.ensures.ok
