@@ -7,3 +7,6 @@ pub mod MentionsAreTheTree
 pub mod NamesInOrder
 mod NodeRows
 pub mod LinePlaces
+pub mod NodeSteps
+pub mod EntrySteps
+pub mod WalkSteps

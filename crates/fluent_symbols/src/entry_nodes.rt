@@ -56,9 +56,7 @@ fn push_entry<'t>(
             push_comment(NodeKind::ResourceComment, comment, text, found)
         }
         Entry::Junk { content } => {
-            let rest = skip(text, content.len());
-            push_node(NodeKind::Junk, text, rest, found)?;
-            Ok(rest)
+            push_node(NodeKind::Junk, text, skip(text, content.len()), found)
         }
     }
 }

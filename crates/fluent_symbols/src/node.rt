@@ -44,7 +44,7 @@ pub struct Node<'t> {
     pub to: &'t [u8],
 }
 
-/// Adds a node between two places.
+/// Adds a node between two places. Returns the second.
 ///
 /// # Errors
 /// [`AllocError`] if memory runs out; `found` is unchanged.
@@ -53,11 +53,12 @@ pub fn push_node<'t>(
     from: &'t [u8],
     to: &'t [u8],
     found: &mut Vec<Node<'t>>,
-) -> Result<(), AllocError>
-    ensures { OnOk result (Adds found.old found.new (plain_node (kind_view kind) from.now to.now ∷ [])) }
+) -> Result<&'t [u8], AllocError>
+    ensures rest { IfOk result (λ rest. rest.now ≡ to.now) }
+    ensures added { OnOk result (Adds found.old found.new (plain_node (kind_view kind) from.now to.now ∷ [])) }
 {
     found.push(Node { kind, from, to })?;
-    Ok(())
+    Ok(to)
 }
 
 /// Adds the identifier at the front. Returns the text after it.
@@ -72,7 +73,5 @@ pub fn push_name<'t>(
     ensures rest { IfOk result (λ rest. rest.now ≡ drop (length name.now) text.now) }
     ensures added { OnOk result (Adds found.old found.new (named name.now text.now)) }
 {
-    let rest = after_name(text, name);
-    push_node(NodeKind::Identifier, text, rest, found)?;
-    Ok(rest)
+    push_node(NodeKind::Identifier, text, after_name(text, name), found)
 }

@@ -3,11 +3,12 @@
 
 ghost use Rattle.std.specs.Prelude.{◌≡◌, IfOk, OnOk, drop, length};
 ghost use Rattle.fluent_ast.specs.Borrowed.{arguments_of, elements_of, expression_of, inline_of, key_of, maybe_arguments_of, named_of, positional_of, variants_of};
+ghost use Rattle.fluent_grammar.specs.Tree as t;
 ghost use Rattle.lint_findings.specs.FlawWords.{key_text as text_of_key};
 ghost use Rattle.lint_nodes.specs.Rests as rests;
 ghost use Rattle.fluent_symbols.specs.NodeView.{Adds, kind_view};
 ghost use Rattle.fluent_symbols.specs.Node.{leaf};
-ghost use Rattle.fluent_symbols.specs.NodePartView.{name_if};
+ghost use Rattle.fluent_symbols.specs.NodePartView.{EndsAt, Leaves, function_of, in_term, message_of, name_if, term_of};
 ghost use Rattle.fluent_symbols.specs.PatternNodes as plain;
 
 use crate::node::{Node, NodeKind, push_name, push_node};
@@ -60,15 +61,17 @@ pub fn push_pattern<'t>(
                 at_line = ends_line(value.as_bytes());
             }
             PatternElement::Placeable { expression } => {
-                at = push_placeable(expression, next, found)?;
+                at = push_placeable(expression, next, found)?.rest;
                 at_line = false;
                 next = after_texts(at);
             }
         }
     }
-    let end = line_end(at);
-    push_node(NodeKind::Pattern, start, end, found)?;
-    Ok(Ended { end, rest: next })
+    let ended = Ended {
+        end: line_end(at),
+        rest: next,
+    };
+    push_ended(NodeKind::Pattern, start, ended, found)
 }
 
 /// From the brace on.
@@ -77,14 +80,14 @@ fn push_placeable<'t>(
     part: &Expression<&str>,
     text: &'t [u8],
     found: &mut Vec<Node<'t>>,
-) -> Result<&'t [u8], AllocError>
-    ensures rest { IfOk result (λ rest. rest.now ≡ rests.placeable_rest (expression_of part.now) text.now) }
+) -> Result<Ended<'t>, AllocError>
+    ensures rest { IfOk result (λ ended. ended.rest.now ≡ rests.placeable_rest (expression_of part.now) text.now) }
+    ensures end { IfOk result (λ ended. ended.end.now ≡ rests.placeable_rest (expression_of part.now) text.now) }
     ensures added { OnOk result (Adds found.old found.new
         (plain.in_placeable (expression_of part.now) text.now)) }
 {
     let rest = after_sign(push_expression(part, within(text), found)?);
-    push_node(NodeKind::Placeable, text, rest, found)?;
-    Ok(rest)
+    push_ended(NodeKind::Placeable, text, Ended { end: rest, rest }, found)
 }
 
 #[cycle(nodes)]
@@ -102,8 +105,7 @@ fn push_expression<'t>(
         Expression::Select { selector, variants } => {
             let selected = push_inline(selector, text, found)?;
             let rest = push_variants(variants, first_variant(selected.rest), found)?;
-            push_node(NodeKind::Select, text, rest, found)?;
-            Ok(rest)
+            push_node(NodeKind::Select, text, rest, found)
         }
     }
 }
@@ -151,9 +153,7 @@ fn push_key<'t>(
         VariantKey::Identifier { .. } => NodeKind::Identifier,
         VariantKey::NumberLiteral { .. } => NodeKind::NumberLiteral,
     };
-    let rest = after_name(text, key_text(key));
-    push_node(kind, text, rest, found)?;
-    Ok(rest)
+    push_node(kind, text, after_name(text, key_text(key)), found)
 }
 
 /// Adds the attribute that a reference names, if it names one: at the dot at the front. Returns the
@@ -174,19 +174,20 @@ fn push_attribute<'t>(
     }
 }
 
-/// Adds a node that begins here and ends where the next part begins.
+/// Adds a node that begins here and ends as its last part does. Returns where that ends.
 fn push_ended<'t>(
     kind: NodeKind,
     text: &'t [u8],
-    rest: &'t [u8],
+    last: Ended<'t>,
     found: &mut Vec<Node<'t>>,
 ) -> Result<Ended<'t>, AllocError>
-    ensures rest { IfOk result (λ ended. ended.rest.now ≡ rest.now) }
-    ensures end { IfOk result (λ ended. ended.end.now ≡ rest.now) }
-    ensures added { OnOk result (Adds found.old found.new (leaf (kind_view kind) text.now rest.now)) }
+    ensures rest { IfOk result (λ ended. ended.rest.now ≡ last.entry.rest.now) }
+    ensures end { IfOk result (λ ended. ended.end.now ≡ last.entry.end.now) }
+    ensures added { OnOk result (Adds found.old found.new
+        (leaf (kind_view kind) text.now last.entry.end.now)) }
 {
-    push_node(kind, text, rest, found)?;
-    Ok(Ended { end: rest, rest })
+    push_node(kind, text, last.end, found)?;
+    Ok(last)
 }
 
 #[cycle(nodes)]
@@ -203,48 +204,116 @@ fn push_inline<'t>(
     match inline {
         InlineExpression::StringLiteral { value } => {
             let rest = skip(after_name(skip(text, 1), value), 1);
-            push_ended(NodeKind::StringLiteral, text, rest, found)
-        }
-        InlineExpression::NumberLiteral { value } => {
             push_ended(
-                NodeKind::NumberLiteral,
+                NodeKind::StringLiteral,
                 text,
-                after_name(text, value),
+                Ended { end: rest, rest },
                 found,
             )
         }
-        InlineExpression::VariableReference { id } => {
-            let rest = push_name(id.name, skip(text, 1), found)?;
-            push_ended(NodeKind::VariableReference, text, rest, found)
+        InlineExpression::NumberLiteral { value } => {
+            let rest = after_name(text, value);
+            push_ended(
+                NodeKind::NumberLiteral,
+                text,
+                Ended { end: rest, rest },
+                found,
+            )
         }
+        InlineExpression::VariableReference { id } => push_variable_reference(id.name, text, found),
         InlineExpression::MessageReference { id, attribute } => {
-            let named = push_name(id.name, text, found)?;
-            let rest = push_attribute(attribute, skip_blank(named), found)?;
-            let end = if attribute.is_some() { rest } else { named };
-            push_node(NodeKind::MessageReference, text, end, found)?;
-            Ok(Ended { end, rest })
+            push_message_reference(id.name, attribute, text, found)
         }
         InlineExpression::FunctionReference { id, arguments } => {
-            let named = push_name(id.name, text, found)?;
-            let rest = push_arguments(arguments, skip_blank(named), found)?;
-            push_ended(NodeKind::FunctionReference, text, rest, found)
+            push_function_reference(id.name, arguments, text, found)
         }
         InlineExpression::TermReference {
             id,
             attribute,
             arguments,
-        } => {
-            let named = push_name(id.name, skip(text, 1), found)?;
-            let end = push_attribute(attribute, named, found)?;
-            let called = push_call(arguments, end, found)?;
-            push_node(NodeKind::TermReference, text, called.end, found)?;
-            Ok(called)
-        }
-        InlineExpression::Placeable { expression } => {
-            let rest = push_placeable(expression, text, found)?;
-            Ok(Ended { end: rest, rest })
-        }
+        } => push_term_reference(id.name, attribute, arguments, text, found),
+        InlineExpression::Placeable { expression } => push_placeable(expression, text, found),
     }
+}
+
+/// Adds the nodes of a reference to a variable, from its dollar sign on.
+fn push_variable_reference<'t>(
+    name: &str,
+    text: &'t [u8],
+    found: &mut Vec<Node<'t>>,
+) -> Result<Ended<'t>, AllocError>
+    ensures rest { IfOk result (λ ended. ended.rest.now
+        ≡ rests.inline_rest (t.variable_reference name.now) text.now) }
+    ensures end { IfOk result (λ ended. ended.end.now
+        ≡ plain.inline_end (t.variable_reference name.now) text.now) }
+    ensures added { OnOk result (Adds found.old found.new
+        (plain.in_inline (t.variable_reference name.now) text.now)) }
+{
+    let rest = push_name(name, skip(text, 1), found)?;
+    push_ended(
+        NodeKind::VariableReference,
+        text,
+        Ended { end: rest, rest },
+        found,
+    )
+}
+
+/// Adds the nodes of a reference to a message or to its attribute.
+fn push_message_reference<'t>(
+    name: &str,
+    attribute: &Option<Identifier<&str>>,
+    text: &'t [u8],
+    found: &mut Vec<Node<'t>>,
+) -> Result<Ended<'t>, AllocError>
+    ensures rest { IfOk result (Leaves (rests.inline_rest (message_of name.now attribute.now) text.now)) }
+    ensures end { IfOk result (EndsAt (plain.inline_end (message_of name.now attribute.now) text.now)) }
+    ensures added { OnOk result (Adds found.old found.new
+        (plain.in_inline (message_of name.now attribute.now) text.now)) }
+{
+    let named = push_name(name, text, found)?;
+    let rest = push_attribute(attribute, skip_blank(named), found)?;
+    let end = if attribute.is_some() { rest } else { named };
+    push_ended(NodeKind::MessageReference, text, Ended { end, rest }, found)
+}
+
+/// Adds the nodes of a call of a function.
+#[cycle(nodes)]
+fn push_function_reference<'t>(
+    name: &str,
+    arguments: &CallArguments<&str>,
+    text: &'t [u8],
+    found: &mut Vec<Node<'t>>,
+) -> Result<Ended<'t>, AllocError>
+    ensures rest { IfOk result (Leaves (rests.inline_rest (function_of name.now arguments.now) text.now)) }
+    ensures end { IfOk result (EndsAt (plain.inline_end (function_of name.now arguments.now) text.now)) }
+    ensures added { OnOk result (Adds found.old found.new
+        (plain.in_inline (function_of name.now arguments.now) text.now)) }
+{
+    let named = push_name(name, text, found)?;
+    let called = push_arguments(arguments, skip_blank(named), found)?;
+    push_ended(NodeKind::FunctionReference, text, called, found)
+}
+
+/// Adds the nodes of a reference to a term or to its attribute, from its minus on.
+#[cycle(nodes)]
+fn push_term_reference<'t>(
+    name: &str,
+    attribute: &Option<Identifier<&str>>,
+    arguments: &Option<CallArguments<&str>>,
+    text: &'t [u8],
+    found: &mut Vec<Node<'t>>,
+) -> Result<Ended<'t>, AllocError>
+    ensures rest { IfOk result (Leaves
+        (rests.inline_rest (term_of name.now attribute.now arguments.now) text.now)) }
+    ensures end { IfOk result (EndsAt
+        (plain.inline_end (term_of name.now attribute.now arguments.now) text.now)) }
+    ensures added { OnOk result (Adds found.old found.new
+        (in_term name.now attribute.now arguments.now text.now)) }
+{
+    let named = push_name(name, skip(text, 1), found)?;
+    let end = push_attribute(attribute, named, found)?;
+    let called = push_call(arguments, end, found)?;
+    push_ended(NodeKind::TermReference, text, called, found)
 }
 
 /// Of the call of a term that is named before this place, if there are arguments.
@@ -260,10 +329,7 @@ fn push_call<'t>(
         (plain.in_call (maybe_arguments_of call.now) text.now)) }
 {
     match call {
-        Some(call) => {
-            let rest = push_arguments(call, skip_blank(text), found)?;
-            Ok(Ended { end: rest, rest })
-        }
+        Some(call) => push_arguments(call, skip_blank(text), found),
         None => Ok(Ended {
             end: text,
             rest: skip_blank(text),
@@ -277,16 +343,22 @@ fn push_arguments<'t>(
     call: &CallArguments<&str>,
     text: &'t [u8],
     found: &mut Vec<Node<'t>>,
-) -> Result<&'t [u8], AllocError>
-    ensures rest { IfOk result (λ rest. rest.now ≡ rests.arguments_rest (arguments_of call.now) (rests.within text.now)) }
+) -> Result<Ended<'t>, AllocError>
+    ensures rest { IfOk result (Leaves
+        (rests.arguments_rest (arguments_of call.now) (rests.within text.now))) }
+    ensures end { IfOk result (EndsAt
+        (rests.arguments_rest (arguments_of call.now) (rests.within text.now))) }
     ensures added { OnOk result (Adds found.old found.new
         (plain.in_arguments (arguments_of call.now) text.now)) }
 {
     let named = push_positional(&call.positional, within(text), found)?;
-    let end = push_named(&call.named, named, found)?;
-    let rest = skip(end, 1);
-    push_node(NodeKind::CallArguments, text, rest, found)?;
-    Ok(rest)
+    let rest = skip(push_named(&call.named, named, found)?, 1);
+    push_ended(
+        NodeKind::CallArguments,
+        text,
+        Ended { end: rest, rest },
+        found,
+    )
 }
 
 #[cycle(nodes)]
