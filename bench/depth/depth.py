@@ -5,9 +5,11 @@ import subprocess
 import sys
 import tempfile
 
-from nested import REQUEST, SHAPES, source
+from nested import ARGUMENT, ID, REQUEST, SHAPES, source
 
-COMMANDS = ("check", "lint", "run", "clean", "normalize", "export", "import")
+COMMANDS = ("check", "lint", "run", "format", "clean", "normalize", "export", "import")
+# What `format` takes before the file.
+FORMATS = ("--argument", ARGUMENT, ID)
 LEAST, MOST = 10, 1_000_000
 ANSWERED, FOUND, NO_JSON, OUT_OF_MEMORY = 0, 1, 1, 4
 
@@ -31,8 +33,8 @@ class Trial:
         status = self.call(command, text).returncode
         # JSON that nests more than 127 deep is none to `import`.
         may_be_no_json = command == "import" and status == NO_JSON
-        # `lint` may have found something.
-        is_answered = status == ANSWERED or command == "lint" and status == FOUND
+        # `lint` may have found something, and the text of `format` may have an error.
+        is_answered = status == ANSWERED or command in ("lint", "format") and status == FOUND
         if not is_answered and status != OUT_OF_MEMORY and not may_be_no_json:
             how = f"signal {-status}" if status < 0 else f"status {status}"
             self.wrong.append(f"{command} of {depth} {shape}: {how}")
@@ -45,7 +47,8 @@ class Trial:
             file.write(text)
         written = subprocess.PIPE if command == "export" else subprocess.DEVNULL
         asked = {"input": REQUEST} if command == "run" else {"stdin": subprocess.DEVNULL}
-        return subprocess.run([self.program, command, path], stdout=written, stderr=subprocess.DEVNULL, **asked)
+        words = [self.program, command, *(FORMATS if command == "format" else ()), path]
+        return subprocess.run(words, stdout=written, stderr=subprocess.DEVNULL, **asked)
 
     def greatest(self, command, shape):
         """The greatest depth that is answered, to one per cent. Each power of ten is tried."""

@@ -12,6 +12,7 @@ MESSAGES = 99
 NESTED = {
     "braces": ("", "{", "}", ""),
     "calls": ("{", "NUMBER(", ")", "}"),
+    "calls with a date": ("{", "DATETIME(", ")", "}"),
     "calls in braces": ("", "{NUMBER(", ")}", ""),
     "terms": ("", "{-t(", ")}", ""),
     "selects": ("", "{ 1 ->\n *[o] ", "\n }", ""),
@@ -24,7 +25,9 @@ CHAINED = {
     "chained terms": ("", "{-t({", "})}", ""),
 }
 SHAPES = [*NESTED, *CHAINED]
-REQUEST = b"m0\n"
+ID = "m0"
+REQUEST = f"{ID}\n".encode()
+ARGUMENT = "d:date=2026-11-28"
 
 
 def source(shape, depth):
@@ -39,7 +42,9 @@ def source(shape, depth):
 
 
 def innermost(shape):
-    """What stands in the innermost level: a pattern in a variant, an expression otherwise."""
+    """What stands in the innermost level: a pattern in a variant, a date where there is one, and a text otherwise."""
+    if shape.endswith("a date"):
+        return "$d"
     return "x" if shape.startswith("selects") else INNERMOST
 
 
