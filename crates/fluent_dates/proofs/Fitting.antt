@@ -22,7 +22,7 @@ IsNone gap = (gap.lacks ≡ 0) × (gap.extra ≡ false)
 no_test : (a b : ℕ) → (a == b) ≡ false → a ≡ b → false ≡ true
 no_test a b test same = sym test ∙ eq-eqb a b same
 
-abbrev gap_if : Bool → Bool → Bool → ℕ → Gap → ℕ → ℕ → Gap
+abbrev pub gap_if : Bool → Bool → Bool → ℕ → Gap → ℕ → ℕ → Gap
 gap_if same none other bit gap asked have =
     if same then gap
     else (if none then record { far = word32 (gap.far + 0x10000); lacks = gap.lacks; extra = true }

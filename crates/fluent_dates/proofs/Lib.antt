@@ -1,4 +1,5 @@
 pub mod Edits
+pub mod Exact
 pub mod Fitting
 pub mod Forms
 pub mod Gaps

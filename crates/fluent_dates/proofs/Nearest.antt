@@ -15,7 +15,7 @@ use Rattle.fluent_dates.specs.Matching.{Found, Gap, gap_between, is_nearer, near
 -- ---- gaps in their order
 
 -- the first gap isn't nearer than the second
-abbrev IsAfter : Gap → Gap → Type 0
+abbrev pub IsAfter : Gap → Gap → Type 0
 IsAfter new old = (old.far ≤ new.far) × (new.far ≡ old.far → new.lacks ≤ old.lacks)
 
 and_right : (x y : Bool) → x ≡ true → (x && y) ≡ false → y ≡ false
@@ -46,7 +46,7 @@ from_test a b h =
       λ e. ltb-false b.lacks a.lacks (and_right (a.far == b.far) (nat_lt b.lacks a.lacks) (eq-eqb a.far b.far e) both.1),
     )
 
-to_test : (a b : Gap) → IsAfter a b → is_nearer a b ≡ false
+pub to_test : (a b : Gap) → IsAfter a b → is_nearer a b ≡ false
 to_test a b h =
     or_from (nat_lt a.far b.far) (a.far == b.far && nat_lt b.lacks a.lacks) (le-ltb a.far b.far h.0)
     (and_if (a.far == b.far) (nat_lt b.lacks a.lacks) (λ t. le-ltb b.lacks a.lacks (h.1 (eqb-true a.far b.far t))))

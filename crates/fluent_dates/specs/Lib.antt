@@ -10,3 +10,4 @@ pub mod Laws
 pub mod Called
 pub mod Shown
 pub mod Equivalent
+pub mod Exact

@@ -1,6 +1,7 @@
 //! The pattern that is nearest to the fields that are wanted (UTS 35, "Matching Skeletons").
 ghost use Rattle.std.specs.Prelude.{◌≡◌, ◌&&◌, ◌==◌, not, option_map};
 ghost use Rattle.fluent_date_tables.specs.Texts.{text_numbered};
+ghost use Rattle.fluent_dates.specs.Exact.{are_same, exact_in, exact_of, exact_one};
 ghost use Rattle.fluent_dates.specs.Matching.{found_view, gap_between, is_nearer, nearer, nearest, nearest_of, paired, wider};
 
 use crate::fields::{Fields, measures};
@@ -136,11 +137,68 @@ fn nearest_of(before: Option<Found>, pairs: &'static [Pair], wanted: &Measures) 
     best
 }
 
+/// Whether two measures are the same, so that there is no gap between them.
+fn are_same(wanted: &Measures, known: &Measures) -> bool
+    ensures { result ≡ are_same wanted.now known.now }
+{
+    for place in 0..11 {
+        if wanted[place] != known[place] {
+            return false;
+        }
+    }
+    true
+}
+
+/// The pattern of a pair, if it is for the very fields that are wanted.
+fn exact_one(wanted: &Measures, pair: Pair) -> Option<Found>
+    ensures { option_map found_view result ≡ exact_one wanted.now pair }
+{
+    match skeleton_numbered(usize::from(pair.skeleton)) {
+        Some(skeleton) if are_same(wanted, &skeleton.measures) => Some(Found {
+            gap: Gap {
+                far: 0,
+                lacks: 0,
+                extra: false,
+            },
+            skeleton,
+            pattern: pair.pattern,
+        }),
+        _ => None,
+    }
+}
+
+/// The first pattern of a list that is for the very fields that are wanted.
+fn exact_of(pairs: &'static [Pair], wanted: &Measures) -> Option<Found>
+    ensures { option_map found_view result ≡ exact_of pairs.now wanted.now }
+{
+    for pair in pairs {
+        if let Some(found) = exact_one(wanted, *pair) {
+            return Some(found);
+        }
+    }
+    None
+}
+
+/// The first pattern of a locale that is for the very fields that are wanted: no other is nearer.
+fn exact_in(row: &Row, wanted: &Measures) -> Option<Found>
+    ensures { option_map found_view result ≡ exact_in row.now wanted.now }
+{
+    match exact_of(list_numbered(row.date_patterns), wanted) {
+        Some(found) => Some(found),
+        None => exact_of(list_numbered(row.time_patterns), wanted),
+    }
+}
+
 /// The nearest pattern of a locale: of those of dates, and then of those of times.
 pub(crate) fn nearest(row: &Row, wanted: &Fields) -> Option<Found>
     ensures { option_map found_view result ≡ nearest row.now wanted.now }
 {
     let wanted = measures(wanted);
-    let dates = nearest_of(None, list_numbered(row.date_patterns), &wanted);
-    nearest_of(dates, list_numbered(row.time_patterns), &wanted)
+    match exact_in(row, &wanted) {
+        Some(found) => Some(found),
+        None => {
+            let dates = nearest_of(None, list_numbered(row.date_patterns), &wanted);
+            nearest_of(dates, list_numbered(row.time_patterns), &wanted)
+        }
+    }
 }
