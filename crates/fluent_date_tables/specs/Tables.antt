@@ -2,7 +2,7 @@
 use Prim.Native.String.{String}
 use Rattle.std.specs.Prelude.{ℕ, zero, suc, Bool, List, [], ◌∷◌, Option, Some, None, if◌then◌else◌, codes, encode_utf8_all}
 use Rattle.std.specs.Borrow.{Bor}
-use Rattle.fluent_plurals.specs.Lookup.{begins_with_tag}
+use Rattle.fluent_plurals.specs.Lookup.{begins_with_tag, folded}
 use Rattle.fluent_date.specs.declared.options.HourCycle.{HourCycle}
 use Rattle.fluent_date_tables.specs.declared.tables.Pair as code_pair
 use Rattle.fluent_date_tables.specs.declared.tables.Tagged as code_tagged
@@ -92,6 +92,11 @@ tags_of (tagged ∷ rest) = (tagged.tag.now, tagged.row) ∷ tags_of rest
 abbrev pub first_of : List Tagged → Text → Option ℕ
 first_of [] text = None
 first_of (tagged ∷ tags) text = if begins_with_tag tagged.0 text then Some tagged.1 else first_of tags text
+
+-- the first byte of a text as tags have it, or 0
+abbrev pub first_folded : Text → ℕ
+first_folded [] = 0
+first_folded (byte ∷ rest) = folded byte
 
 -- the first of two that is there
 abbrev pub or_else : Option ℕ → Option ℕ → Option ℕ

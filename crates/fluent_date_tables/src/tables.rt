@@ -2,7 +2,7 @@
 ghost use Rattle.std.specs.Prelude.{◌≡◌};
 ghost use Rattle.std.specs.Prelude.{slice_get};
 ghost use Rattle.fluent_plurals.specs.Lookup.{begins_with_tag, folded};
-ghost use Rattle.fluent_date_tables.specs.Tables.{first_of, found, list_at, nows, tags_of};
+ghost use Rattle.fluent_date_tables.specs.Tables.{first_folded, first_of, found, list_at, nows, tags_of};
 ghost use Rattle.fluent_date_tables.specs.Skeletons.{skeletons};
 ghost use Rattle.fluent_date_tables.specs.Rows.{rows};
 
@@ -156,24 +156,36 @@ pub fn row_numbered(number: usize) -> Option<&'static Row>
 pub(crate) fn first_fitting(tags: &[Tagged], text: &[u8]) -> Option<u16>
     ensures { result ≡ first_of (tags_of tags.now) text.now }
 {
+    let first = first_folded(text);
     for tagged in tags {
-        if begins_with(tagged.tag.as_bytes(), text) {
+        if begins_with(tagged.tag.as_bytes(), text, first) {
             return Some(tagged.row);
         }
     }
     None
 }
 
+/// The first byte of a text as tags have it, or 0.
+fn first_folded(text: &[u8]) -> u8
+    ensures { result ≡ first_folded text.now }
+{
+    match text {
+        [] => 0,
+        [byte, ..] => folded(*byte),
+    }
+}
+
 /// Whether a text begins with a tag. Most tags of a table differ in their first byte, which is
 /// compared before the others.
-fn begins_with(tag: &[u8], text: &[u8]) -> bool
+fn begins_with(tag: &[u8], text: &[u8], first: u8) -> bool
+    requires { first ≡ first_folded text.now }
     ensures { result ≡ begins_with_tag tag.now text.now }
 {
     match tag {
         [] => begins_with_tag(tag, text),
         [byte, tag @ ..] => match text {
             [] => false,
-            [other, text @ ..] => *byte == folded(*other) && begins_with_tag(tag, text),
+            [_, text @ ..] => *byte == first && begins_with_tag(tag, text),
         },
     }
 }
