@@ -1,7 +1,7 @@
 /* Times dates from C: dates COUNT
  *
- * Prints nanoseconds of one call: of fluent_write_date in long style, and of a message of a German bundle with a date, in long style
- * and in digits, and with a text in its place. Only the fastest of five rounds of COUNT calls counts.
+ * Prints nanoseconds of one call: of fluent_write_date in long style and in digits, and of a message of a German bundle with a date, in
+ * long style and in digits, and with a text in its place. Only the fastest of five rounds of COUNT calls counts.
  */
 #include <stdio.h>
 #include <stdlib.h>
@@ -27,11 +27,12 @@ struct Case {
 static struct FluentBundle bundle;
 static struct FluentText text;
 
-/* Makes the call of a case, which is fluent_write_date if it has no id. Gives whether the text is right. */
+/* Makes the call of a case, which is fluent_write_date if it has no id, with an option if that has a name. Gives whether the text is
+ * right. */
 static bool shows(const struct Case *row) {
     static const struct FluentDate date = {.year = 2026, .month = 11, .day = 28};
     uint32_t status = row->id ? fluent_format(&bundle, row->id, NULL, &row->argument, 1, &text, NULL)
-                              : fluent_date_text("de", &date, &row->argument, 1, &text);
+                              : fluent_date_text("de", &date, &row->argument, row->argument.name != NULL, &text);
     return status == FLUENT_READ && strcmp(fluent_string(&text), row->text) == 0;
 }
 
@@ -42,6 +43,7 @@ int main(int argc, char **argv) {
     date.kind = FLUENT_DATETIME;
     const struct Case cases[] = {
         {"fluent_write_date, long", NULL, fluent_text_argument("dateStyle", "long"), "28. November 2026"},
+        {"fluent_write_date, digits", NULL, {0}, "28.11.2026"},
         {"a message, long", "long", date, "28. November 2026"},
         {"a message, in digits", "shown", date, "28.11.2026"},
         {"a message with a text", "shown", shown, "28. November 2026"},
@@ -59,7 +61,7 @@ int main(int argc, char **argv) {
             double took = (now() - begin) / (double)count;
             best = took < best ? took : best;
         }
-        printf("%-24s %6.0f ns\n", cases[each].name, best);
+        printf("%-25s %6.0f ns\n", cases[each].name, best);
     }
     fluent_free_text(&text);
     fluent_bundle_free(&bundle);

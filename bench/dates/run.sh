@@ -1,5 +1,5 @@
 #!/bin/sh
-# Times dates from C: a date in long style by fluent_write_date, and in messages. It needs rt and a C compiler.
+# Times dates from C: by fluent_write_date, and in messages. It needs rt and a C compiler.
 set -eu
 here=$(cd "$(dirname "$0")" && pwd)
 root=$(cd "$here/../.." && pwd)
