@@ -6,7 +6,7 @@ use crate::places::Place;
 use std::alloc::{AllocError, AllocFailed};
 
 /// What is wrong with the value of a key, or with a table.
-#[derive(Clone, Copy, Debug, PartialEq, Eq)]
+#[derive(Clone, Copy)]
 pub enum FaultKind {
     /// Not a text, or an empty one.
     NoText,
@@ -45,7 +45,7 @@ pub enum FaultKind {
 }
 
 /// What is wrong with the file of a project, and where.
-#[derive(Clone, Copy, Debug, PartialEq, Eq)]
+#[derive(Clone, Copy)]
 pub struct Fault<'f> {
     /// Where it is: [`line_of`](crate::line_of) has its line.
     pub place: Place<'f>,
@@ -54,7 +54,7 @@ pub struct Fault<'f> {
 }
 
 /// Why a file tells no project.
-#[derive(Clone, Copy, Debug, PartialEq, Eq)]
+#[derive(Clone, Copy)]
 pub enum FileError<'f> {
     /// Memory ran out.
     Memory,

@@ -15,7 +15,7 @@ use std::alloc::Global;
 use toml::Table;
 
 /// What the file of a project says. Its texts are those of the table that it was read from.
-#[derive(Debug, Drop)]
+#[derive(Drop)]
 pub struct ProjectFile<'f> {
     /// Where paths begin, the languages, and the variables of patterns.
     pub head: Head<'f>,
@@ -30,7 +30,7 @@ pub struct ProjectFile<'f> {
 }
 
 /// Where paths begin, the languages, and the variables of patterns.
-#[derive(Debug, Drop)]
+#[derive(Drop)]
 pub struct Head<'f> {
     /// `basepath`: the folder that patterns are relative to, itself relative to the file's folder.
     pub basepath: Option<&'f str>,
@@ -41,7 +41,7 @@ pub struct Head<'f> {
 }
 
 /// A name and its value.
-#[derive(Clone, Copy, Debug, PartialEq, Eq)]
+#[derive(Clone, Copy)]
 pub struct Setting<'f> {
     /// The name.
     pub name: &'f str,
@@ -50,7 +50,7 @@ pub struct Setting<'f> {
 }
 
 /// A table `[[paths]]`: which translations are of which reference.
-#[derive(Debug, Drop)]
+#[derive(Drop)]
 pub struct PathRule<'f> {
     /// The pattern of the files that are translated from.
     pub reference: Option<&'f str>,
@@ -61,7 +61,7 @@ pub struct PathRule<'f> {
 }
 
 /// A table `[[filters]]`: what becomes of files, or of their messages with these keys.
-#[derive(Debug, Drop)]
+#[derive(Drop)]
 pub struct Filter<'f> {
     /// Patterns of translations: one at least.
     pub paths: Vec<&'f str>,
@@ -72,7 +72,7 @@ pub struct Filter<'f> {
 }
 
 /// What becomes of files or messages that a translation lacks, or has alone.
-#[derive(Clone, Copy, Debug, PartialEq, Eq)]
+#[derive(Clone, Copy)]
 pub enum Action {
     /// They aren't asked for.
     Ignore,
@@ -83,7 +83,7 @@ pub enum Action {
 }
 
 /// The files that the file of a project names.
-#[derive(Debug, Drop)]
+#[derive(Drop)]
 pub struct Links<'f> {
     /// Files whose tables count as well.
     pub includes: Vec<&'f str>,
@@ -92,7 +92,7 @@ pub struct Links<'f> {
 }
 
 /// The table `[kozhvadi]`.
-#[derive(Debug, Drop)]
+#[derive(Drop)]
 pub struct Settings<'f> {
     /// The functions that the program provides.
     pub functions: Option<Vec<&'f str>>,

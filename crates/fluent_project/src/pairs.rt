@@ -13,7 +13,7 @@ use std::alloc::{AllocError, Global};
 use std::collections::BTreeMap;
 
 /// Which files are translated from which, for all languages or for some.
-#[derive(Debug, Drop)]
+#[derive(Drop)]
 pub struct Rule<'f> {
     /// The number of the project's file that has the rule.
     pub file: usize,
@@ -26,7 +26,7 @@ pub struct Rule<'f> {
 }
 
 /// What a file of a language is translated from.
-#[derive(Clone, Copy, Debug, PartialEq, Eq)]
+#[derive(Clone, Copy)]
 pub enum Source {
     /// The file at this index of those of the reference.
     File(usize),

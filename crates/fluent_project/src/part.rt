@@ -1,7 +1,7 @@
 //! The parts of a pattern of paths.
 
 /// A part of a pattern of paths. A path is its bytes, with `/` between the names of folders.
-#[derive(Clone, Copy, Debug, PartialEq, Eq)]
+#[derive(Clone, Copy)]
 pub enum Part {
     /// A byte that stands for itself.
     Byte(u8),
@@ -12,7 +12,7 @@ pub enum Part {
 }
 
 /// What stands for one of several texts in a pattern of paths.
-#[derive(Clone, Copy, Debug, PartialEq, Eq)]
+#[derive(Clone, Copy, PartialEq, Eq)]
 pub enum Wildcard {
     /// `*`: any text without a slash, also an empty one.
     Star,

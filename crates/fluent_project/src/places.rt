@@ -9,7 +9,7 @@ use crate::reading::{is_same, trimmed};
 use std::alloc::{AllocError, Global};
 
 /// Where a key stands in the file of a project.
-#[derive(Clone, Copy, Debug, PartialEq, Eq)]
+#[derive(Clone, Copy)]
 pub enum Place<'f> {
     /// A key before all tables, or the first table of this name.
     Top(&'f str),

@@ -9,7 +9,7 @@ use crate::part::{Part, Wildcard};
 use std::alloc::{AllocError, Global};
 
 /// A name that stands for parts of patterns, as `{name}`.
-#[derive(Clone, Copy, Debug, PartialEq, Eq)]
+#[derive(Clone, Copy)]
 pub struct Variable<'v> {
     /// The name, without braces and blanks.
     pub name: &'v [u8],
@@ -18,7 +18,7 @@ pub struct Variable<'v> {
 }
 
 /// Why a text is no pattern.
-#[derive(Clone, Copy, Debug, PartialEq, Eq)]
+#[derive(Clone, Copy)]
 pub enum PatternError<'text> {
     /// Memory ran out.
     Memory,

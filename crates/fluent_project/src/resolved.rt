@@ -14,7 +14,7 @@ use crate::reading::{PatternError, Variable, is_same, parts_of, trimmed};
 use std::alloc::{AllocError, Global};
 
 /// A name and the parts that it stands for.
-#[derive(Debug, Drop)]
+#[derive(Drop)]
 pub struct Resolved<'f> {
     /// The name.
     pub name: &'f str,

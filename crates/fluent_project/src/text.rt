@@ -10,7 +10,7 @@ use toml::Table;
 use toml::de::Error;
 
 /// Why a text has no tables.
-#[derive(Clone, Copy, Debug, PartialEq, Eq)]
+#[derive(Clone, Copy)]
 pub enum TextError {
     /// Memory ran out.
     Memory,

@@ -3,7 +3,7 @@
 use lint_report::Format as ReportFormat;
 
 /// What the command-line arguments ask for.
-#[derive(Debug, PartialEq, Eq, Drop)]
+#[derive(Drop)]
 pub enum Invocation<'words> {
     /// A command of the program.
     Command(Command<'words>),
@@ -16,7 +16,7 @@ pub enum Invocation<'words> {
 }
 
 /// A command of the program.
-#[derive(Debug, PartialEq, Eq, Drop)]
+#[derive(Drop)]
 pub enum Command<'words> {
     /// Answer the request lines of standard input.
     Run {
@@ -59,7 +59,7 @@ pub enum Command<'words> {
 }
 
 /// Which message is written, from which sources, and how.
-#[derive(Debug, PartialEq, Eq, Drop)]
+#[derive(Drop)]
 pub struct Format<'words> {
     /// Whether the values of placeables are set between U+2068 and U+2069.
     pub isolating: bool,
@@ -81,7 +81,7 @@ pub struct Format<'words> {
 }
 
 /// Which sources are a catalog, what it is compared with, and how findings are reported.
-#[derive(Debug, PartialEq, Eq, Drop)]
+#[derive(Drop)]
 pub struct Lint<'words> {
     /// The names of the files that are translated from, and of folders with such files.
     pub references: Vec<&'words str>,
@@ -104,7 +104,7 @@ pub struct Lint<'words> {
 }
 
 /// Which project is meant, and which of its languages.
-#[derive(Debug, PartialEq, Eq, Drop)]
+#[derive(Drop)]
 pub struct ProjectWords<'words> {
     /// Patterns of the files that are translated from, each at the index of that of its
     /// translations.
@@ -119,7 +119,7 @@ pub struct ProjectWords<'words> {
 }
 
 /// Which project is linted, and how findings are reported.
-#[derive(Debug, PartialEq, Eq, Drop)]
+#[derive(Drop)]
 pub struct ProjectLint<'words> {
     /// The project.
     pub project: ProjectWords<'words>,
@@ -143,7 +143,7 @@ pub struct ProjectLint<'words> {
 }
 
 /// Which project is counted, and how the table is written.
-#[derive(Debug, PartialEq, Eq, Drop)]
+#[derive(Drop)]
 pub struct Status<'words> {
     /// The project.
     pub project: ProjectWords<'words>,
@@ -154,7 +154,7 @@ pub struct Status<'words> {
 }
 
 /// How a table is written.
-#[derive(Clone, Copy, Debug, PartialEq, Eq)]
+#[derive(Clone, Copy)]
 pub enum TableFormat {
     /// In columns, for people.
     Text,
@@ -165,7 +165,7 @@ pub enum TableFormat {
 }
 
 /// Which files are tidied in place.
-#[derive(Debug, PartialEq, Eq, Drop)]
+#[derive(Drop)]
 pub struct TidyFiles<'words> {
     /// Whether they are only checked.
     pub check: bool,
@@ -174,7 +174,7 @@ pub struct TidyFiles<'words> {
 }
 
 /// How sources are tidied, and the names of their files.
-#[derive(Debug, PartialEq, Eq, Drop)]
+#[derive(Drop)]
 pub enum Tidy<'words> {
     /// The stretches that can't be read are taken out.
     Clean(&'words str),

@@ -9,7 +9,7 @@ use std::error::Error;
 use std::fmt;
 
 /// Why command-line arguments ask for nothing.
-#[derive(Debug, PartialEq, Eq, Drop)]
+#[derive(Debug, Drop)]
 pub enum CommandError {
     /// Memory ran out.
     Memory,
