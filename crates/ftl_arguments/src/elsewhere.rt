@@ -1,65 +1,93 @@
 //! What other programs call options and commands that `ftl` calls otherwise.
 
+/// What another program calls something, and what may be meant by that.
+type Meant = (&'static str, &'static str);
+
+/// Commands.
+static COMMANDS: [Meant; 17] = [
+    ("fmt", "did you mean 'tidy'?"),
+    ("fix", "did you mean 'tidy'?"),
+    ("pretty", "did you mean 'tidy'?"),
+    ("compare", "did you mean 'lint --reference'?"),
+    ("diff", "did you mean 'lint --reference'?"),
+    ("validate", "did you mean 'lint'?"),
+    ("verify", "did you mean 'lint'?"),
+    ("get", "did you mean 'format'?"),
+    ("show", "did you mean 'format'?"),
+    ("print", "did you mean 'format'?"),
+    ("merge", "did you mean 'join'?"),
+    ("concat", "did you mean 'join'?"),
+    ("cat", "did you mean 'join'?"),
+    ("parse", "did you mean 'export'?"),
+    ("ast", "did you mean 'export'?"),
+    ("json", "did you mean 'export'?"),
+    ("version", "did you mean '--version'?"),
+];
+
+/// Options of `lint`.
+static OF_LINT: [Meant; 19] = [
+    ("--json", "did you mean '--format json'?"),
+    ("--github", "did you mean '--format github'?"),
+    ("--sarif", "did you mean '--format sarif'?"),
+    ("--gitlab", "did you mean '--format gitlab'?"),
+    ("--output-format", "did you mean '--format'?"),
+    ("--output", "did you mean '--format'?"),
+    ("-o", "did you mean '--format'?"),
+    ("-q", "did you mean '--format line'?"),
+    ("--quiet", "did you mean '--format line'?"),
+    ("--compact", "did you mean '--format line'?"),
+    ("--no-color", "did you mean '--color never'?"),
+    ("--no-colors", "did you mean '--color never'?"),
+    ("--disable", "did you mean '--ignore'?"),
+    ("--exclude", "did you mean '--ignore'?"),
+    ("--skip", "did you mean '--ignore'?"),
+    ("--fix", "did you mean 'ftl tidy'?"),
+    ("--source", "did you mean '--reference'?"),
+    ("--base", "did you mean '--reference'?"),
+    ("--stdin", "'-' in the place of files is standard input;"),
+];
+
+/// Options that name a locale.
+static OF_LOCALES: [Meant; 3] = [
+    ("--lang", "did you mean '--locale'?"),
+    ("--language", "did you mean '--locale'?"),
+    ("-l", "did you mean '--locale'?"),
+];
+
+/// Options of `tidy`.
+static OF_TIDY: [Meant; 12] = [
+    ("-w", "files are tidied in place;"),
+    ("--write", "files are tidied in place;"),
+    ("-i", "files are tidied in place;"),
+    ("--in-place", "files are tidied in place;"),
+    ("--inplace", "files are tidied in place;"),
+    ("--fix", "files are tidied in place;"),
+    ("-n", "did you mean '--check'?"),
+    ("--dry-run", "did you mean '--check'?"),
+    ("-c", "did you mean '--check'?"),
+    ("--list-different", "did you mean '--check'?"),
+    ("-l", "did you mean '--check'?"),
+    ("--stdin", "'-' in the place of files is standard input;"),
+];
+
 /// What may be meant by a word that a command doesn't know, in words that a pointer to the help may
 /// follow. Without a command it is a command's name.
 pub(crate) fn meant_by(command: &str, word: &str) -> Option<&'static str> {
     match command {
-        "" => command_meant(word),
-        "lint" => option_of_lint(word).or_else(|| option_of_locales(word)),
-        "run" | "format" => option_of_locales(word),
-        "tidy" => option_of_tidy(word),
+        "" => meant_in(&COMMANDS, word),
+        "lint" => meant_in(&OF_LINT, word).or_else(|| meant_in(&OF_LOCALES, word)),
+        "run" | "format" => meant_in(&OF_LOCALES, word),
+        "tidy" => meant_in(&OF_TIDY, word),
         _ => None,
     }
 }
 
-/// A command.
-fn command_meant(word: &str) -> Option<&'static str> {
-    match word {
-        "fmt" | "fix" | "pretty" => Some("did you mean 'tidy'?"),
-        "compare" | "diff" => Some("did you mean 'lint --reference'?"),
-        "validate" | "verify" => Some("did you mean 'lint'?"),
-        "get" | "show" | "print" => Some("did you mean 'format'?"),
-        "merge" | "concat" | "cat" => Some("did you mean 'join'?"),
-        "parse" | "ast" | "json" => Some("did you mean 'export'?"),
-        "version" => Some("did you mean '--version'?"),
-        _ => None,
-    }
-}
-
-/// An option of `lint`.
-fn option_of_lint(word: &str) -> Option<&'static str> {
-    match word {
-        "--json" => Some("did you mean '--format json'?"),
-        "--github" => Some("did you mean '--format github'?"),
-        "--sarif" => Some("did you mean '--format sarif'?"),
-        "--gitlab" => Some("did you mean '--format gitlab'?"),
-        "--output-format" | "--output" | "-o" => Some("did you mean '--format'?"),
-        "-q" | "--quiet" | "--compact" => Some("did you mean '--format line'?"),
-        "--no-color" | "--no-colors" => Some("did you mean '--color never'?"),
-        "--disable" | "--exclude" | "--skip" => Some("did you mean '--ignore'?"),
-        "--fix" => Some("did you mean 'ftl tidy'?"),
-        "--source" | "--base" => Some("did you mean '--reference'?"),
-        "--stdin" => Some("'-' in the place of files is standard input;"),
-        _ => None,
-    }
-}
-
-/// An option that names a locale.
-fn option_of_locales(word: &str) -> Option<&'static str> {
-    match word {
-        "--lang" | "--language" | "-l" => Some("did you mean '--locale'?"),
-        _ => None,
-    }
-}
-
-/// An option of `tidy`.
-fn option_of_tidy(word: &str) -> Option<&'static str> {
-    match word {
-        "-w" | "--write" | "-i" | "--in-place" | "--inplace" | "--fix" => {
-            Some("files are tidied in place;")
+/// What one of the tables says of a word.
+fn meant_in(table: &'static [Meant], word: &str) -> Option<&'static str> {
+    for (other, meant) in table {
+        if *other == word {
+            return Some(*meant);
         }
-        "-n" | "--dry-run" | "-c" | "--list-different" | "-l" => Some("did you mean '--check'?"),
-        "--stdin" => Some("'-' in the place of files is standard input;"),
-        _ => None,
     }
+    None
 }
