@@ -6,3 +6,4 @@ pub mod ArgumentsBehind
 pub mod Asked
 pub mod AllOf
 pub mod Gathered
+pub mod Added

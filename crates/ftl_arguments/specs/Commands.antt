@@ -1,5 +1,5 @@
 -- The program `ftl` and its commands, as `clap` knows them.
-use Rattle.std.specs.Prelude.{◌≡◌, List, [], ◌∷◌, ◌++◌, Some, true, false, codes}
+use Rattle.std.specs.Prelude.{◌≡◌, List, [], ◌∷◌, ◌++◌, Some, Result, IfOk, true, false, codes}
 use Rattle.clap.specs.Lexer.{usize_max}
 use Rattle.clap.specs.Words.{App, Rule, Shape, Text, new_app, new_rule, rule_of, shape_of, with_subcommand}
 use Rattle.clap.specs.Simple.{new_shape, on_top}
@@ -47,6 +47,10 @@ project_paths_rule = record (new_rule (codes "PATH")) { range = Some (record { s
 -- a command with these arguments
 abbrev pub shaped : Text → List Rule → Shape
 shaped name rules = record (new_shape name) { rules = rules }
+
+-- a command with one more argument
+abbrev pub with_argument : Shape → Rule → Shape
+with_argument s rule = record s { rules = s.rules ++ rule ∷ [] }
 
 -- one more command, with this argument alone
 abbrev pub with_command : App → Text → Rule → App
@@ -149,3 +153,8 @@ IsLocal rule a = (rule_of a ≡ rule) × (a.global ≡ false)
 -- `clap` knows the command so, with no argument for other commands
 abbrev pub IsShaped : Shape → Command → Type 0
 IsShaped shape c = (shape_of c ≡ shape) × ((fields_of c).has_globals ≡ false)
+
+-- With one more argument, a command keeps its shape, but for one more rule.
+abbrev pub AddsArgument : {E : Type 0} → Result Command E → Arg → Result Command E → Type 0
+AddsArgument command a more =
+    (shape : Shape) → (rule : Rule) → IfOk command (IsShaped shape) → IsLocal rule a → IfOk more (IsShaped (with_argument shape rule))

@@ -1,7 +1,7 @@
 //! The program and its commands, as `clap` knows them.
 ghost use Rattle.std.specs.Prelude.{◌≡◌, ◌∷◌, [], false, codes, IfOk};
 ghost use Rattle.clap.specs.Words.{app_of, rule_of, with_subcommand};
-ghost use Rattle.ftl_arguments.specs.Commands.{IsShaped, IsLocal, shaped, with_command};
+ghost use Rattle.ftl_arguments.specs.Commands.{AddsArgument, IsShaped, IsLocal, shaped, with_command};
 ghost use Rattle.ftl_arguments.specs.Commands.{flag_rule, option_rule, each_rule, default_rule};
 ghost use Rattle.ftl_arguments.specs.Commands.{id_rule, file_rule, files_rule};
 ghost use Rattle.ftl_arguments.specs.Commands.{bare_program, program_app, asking_rules, flagged_rules, format_shape, run_shape};
@@ -150,7 +150,7 @@ fn command_of<'a>(
     ensures { argument.entry.global ≡ false
         → IfOk result (IsShaped (shaped name.entry.now (rule_of argument.entry ∷ []))) }
 {
-    Command::new(alloc, name).about(about).arg(argument)
+    with_argument(Ok(named(alloc, name, about)), argument)
 }
 
 /// The command `run`.
@@ -177,14 +177,10 @@ fn with_format<'a>(alloc: Global, program: Command<'a>) -> Result<Command<'a>, A
 fn format<'a>(alloc: Global) -> Result<Command<'a>, AllocError>
     ensures { IfOk result (IsShaped format_shape) }
 {
-    let argument = each(alloc, "argument", "NAME=VALUE").help(
-        "Pass a value (repeatable); `3` and `1.50` are numbers",
-    );
-    asking(alloc, "format", "Print the text of one message")?
-        .after_help("Example: ftl format welcome hello.ftl --argument name=Jane")
-        .arg(argument)?
-        .arg(id(alloc))?
-        .arg(files(alloc))
+    let command = asking(alloc, "format", "Print the text of one message");
+    let command = with_argument(with_argument(command, argument(alloc)), id(alloc));
+    let command = with_argument(command, files(alloc))?;
+    Ok(command.after_help("Example: ftl format welcome hello.ftl --argument name=Jane"))
 }
 
 /// The program with the command `lint`, too.
@@ -214,85 +210,151 @@ fn lint_paths<'a>(alloc: Global) -> Arg<'a>
 fn explaining<'a>(alloc: Global) -> Result<Command<'a>, AllocError>
     ensures { IfOk result (IsShaped (shaped (codes "lint") explaining_rules)) }
 {
-    in_project(alloc)?.arg(explained(alloc))
+    with_argument(in_project(alloc), explained(alloc))
 }
 
 /// The same without the code that is to be explained.
 fn in_project<'a>(alloc: Global) -> Result<Command<'a>, AllocError>
     ensures { IfOk result (IsShaped (shaped (codes "lint") project_rules)) }
 {
-    within(alloc)?.arg(baseline(alloc))?.arg(written(alloc))
+    with_argument(
+        with_argument(within(alloc), baseline(alloc)),
+        written(alloc),
+    )
 }
 
 /// The same without the findings that a project had.
 fn within<'a>(alloc: Global) -> Result<Command<'a>, AllocError>
     ensures { IfOk result (IsShaped (shaped (codes "lint") within_rules)) }
 {
-    reporting(alloc)?.arg(only(alloc))?.arg(variable(alloc))
+    with_argument(
+        with_argument(reporting(alloc), only(alloc)),
+        variable(alloc),
+    )
 }
 
 /// The same without the options that are of projects alone.
 fn reporting<'a>(alloc: Global) -> Result<Command<'a>, AllocError>
     ensures { IfOk result (IsShaped (shaped (codes "lint") linting_rules)) }
 {
-    choosing(alloc)?
-        .arg(flag(alloc, "strict").help("End with 1 for warnings, too"))?
-        .arg(report_format(alloc))?
-        .arg(colours(alloc))
+    let command = with_argument(choosing(alloc), strict(alloc));
+    with_argument(with_argument(command, report_format(alloc)), colours(alloc))
 }
 
 /// The same without the options that say how findings are reported.
 fn choosing<'a>(alloc: Global) -> Result<Command<'a>, AllocError>
     ensures { IfOk result (IsShaped (shaped (codes "lint") reported_rules)) }
 {
-    filtering(alloc)?
-        .arg(flag(alloc, "notes").help("Report notes, too"))?
-        .arg(counts(alloc))
+    with_argument(with_argument(filtering(alloc), notes(alloc)), counts(alloc))
 }
 
 /// The same with the options alone that say what is known, and which findings are left out.
 fn filtering<'a>(alloc: Global) -> Result<Command<'a>, AllocError>
     ensures { IfOk result (IsShaped (shaped (codes "lint") filtered_rules)) }
 {
-    comparing(alloc)?.arg(ignored(alloc))?.arg(selected(alloc))
+    with_argument(
+        with_argument(comparing(alloc), ignored(alloc)),
+        selected(alloc),
+    )
 }
 
 /// The same with the options alone that say what is known of the program and of the language.
 fn comparing<'a>(alloc: Global) -> Result<Command<'a>, AllocError>
     ensures { IfOk result (IsShaped (shaped (codes "lint") known_rules)) }
 {
-    Command::new(alloc, "lint")
-        .about("Find mistakes and missing translations, with their lines")
-        .arg(reference(alloc))?
-        .arg(function(alloc))?
-        .arg(categories(alloc))
+    let about = "Find mistakes and missing translations, with their lines";
+    let command = with_argument(Ok(named(alloc, "lint", about)), reference(alloc));
+    with_argument(with_argument(command, function(alloc)), categories(alloc))
 }
 
 /// A command of this name with the options that say how texts are made.
 fn asking<'a>(alloc: Global, name: &'a str, about: &'a str) -> Result<Command<'a>, AllocError>
     ensures { IfOk result (IsShaped (shaped name.entry.now asking_rules)) }
 {
-    let locale = option(alloc, "locale", "TAG").help(
-        "Use the plural rules of this locale, and write numbers as it does",
-    );
-    let plain = flag(alloc, "plain-numbers").help("Write numbers plainly, whatever the locale");
-    flagged(alloc, name, about)?.arg(locale)?.arg(plain)
+    with_argument(
+        with_argument(flagged(alloc, name, about), locale(alloc)),
+        plain_numbers(alloc),
+    )
 }
 
 /// The same with the flags alone.
 fn flagged<'a>(alloc: Global, name: &'a str, about: &'a str) -> Result<Command<'a>, AllocError>
     ensures { IfOk result (IsShaped (shaped name.entry.now flagged_rules)) }
 {
-    let isolating = flag(alloc, "no-isolating").help(
+    let command = with_argument(Ok(named(alloc, name, about)), not_isolating(alloc));
+    with_argument(command, overriding(alloc))
+}
+
+/// A command of this name, which has no argument.
+pub(crate) fn named<'a>(alloc: Global, name: &'a str, about: &'a str) -> Command<'a>
+    ensures { IsShaped (shaped name.entry.now []) result }
+{
+    Command::new(alloc, name).about(about)
+}
+
+/// A command with one more argument, if there was memory for the command and there is for this.
+pub(crate) fn with_argument<'a>(
+    command: Result<Command<'a>, AllocError>,
+    argument: Arg<'a>,
+) -> Result<Command<'a>, AllocError>
+    ensures { AddsArgument command.entry argument.entry result }
+{
+    command?.arg(argument)
+}
+
+/// Whether values are set off by no marks.
+fn not_isolating<'a>(alloc: Global) -> Arg<'a>
+    ensures { IsLocal (flag_rule (codes "no-isolating")) result }
+{
+    flag(alloc, "no-isolating").help(
         "Leave out the direction marks U+2068 and U+2069 around values",
-    );
-    let overriding = flag(alloc, "overriding").help(
-        "Let the last entry of an id count, and not the first",
-    );
-    Command::new(alloc, name)
-        .about(about)
-        .arg(isolating)?
-        .arg(overriding)
+    )
+}
+
+/// Whether the last entry of an id counts.
+fn overriding<'a>(alloc: Global) -> Arg<'a>
+    ensures { IsLocal (flag_rule (codes "overriding")) result }
+{
+    flag(alloc, "overriding").help("Let the last entry of an id count, and not the first")
+}
+
+/// The locale whose plural rules and numbers texts have.
+fn locale<'a>(alloc: Global) -> Arg<'a>
+    ensures { IsLocal (option_rule (codes "locale")) result }
+{
+    option(alloc, "locale", "TAG").help(
+        "Use the plural rules of this locale, and write numbers as it does",
+    )
+}
+
+/// Whether numbers are written plainly.
+fn plain_numbers<'a>(alloc: Global) -> Arg<'a>
+    ensures { IsLocal (flag_rule (codes "plain-numbers")) result }
+{
+    flag(alloc, "plain-numbers").help("Write numbers plainly, whatever the locale")
+}
+
+/// A value that `format` passes to a message.
+fn argument<'a>(alloc: Global) -> Arg<'a>
+    ensures { IsLocal (each_rule (codes "argument")) result }
+{
+    each(alloc, "argument", "NAME=VALUE").help(
+        "Pass a value (repeatable); `3` and `1.50` are numbers",
+    )
+}
+
+/// Whether `lint` reports notes.
+fn notes<'a>(alloc: Global) -> Arg<'a>
+    ensures { IsLocal (flag_rule (codes "notes")) result }
+{
+    flag(alloc, "notes").help("Report notes, too")
+}
+
+/// Whether warnings count for the status of `lint`.
+fn strict<'a>(alloc: Global) -> Arg<'a>
+    ensures { IsLocal (flag_rule (codes "strict")) result }
+{
+    flag(alloc, "strict").help("End with 1 for warnings, too")
 }
 
 /// A flag of this name.

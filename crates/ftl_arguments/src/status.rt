@@ -1,9 +1,9 @@
 //! The command `status`, and the options of projects, as `clap` knows them.
 ghost use Rattle.std.specs.Prelude.{◌≡◌, IfOk, codes};
 ghost use Rattle.clap.specs.Words.{app_of, with_subcommand};
-ghost use Rattle.ftl_arguments.specs.Commands.{IsLocal, IsShaped, chosen_rules, default_rule, each_rule, option_rule, project_paths_rule, shaped, status_shape};
+ghost use Rattle.ftl_arguments.specs.Commands.{IsLocal, IsShaped, chosen_rules, default_rule, each_rule, flag_rule, option_rule, project_paths_rule, shaped, status_shape};
 
-use crate::program::{each, flag, option, option_or};
+use crate::program::{each, flag, named, option, option_or, with_argument};
 use clap::{Arg, Command};
 use std::alloc::{AllocError, Global};
 
@@ -27,26 +27,44 @@ pub(crate) fn with_status<'a>(
 fn status<'a>(alloc: Global) -> Result<Command<'a>, AllocError>
     ensures { IfOk result (IsShaped status_shape) }
 {
-    choosing(alloc)?
-        .after_help(EXAMPLE)
-        .arg(flag(alloc, "files").help("Count each file, too"))?
-        .arg(table_format(alloc))?
-        .arg(project_paths(alloc))
+    let command = with_argument(
+        with_argument(choosing(alloc), files(alloc)),
+        table_format(alloc),
+    );
+    let command = with_argument(command, project_paths(alloc))?;
+    Ok(command.after_help(EXAMPLE))
 }
 
 /// The command `status` with the options alone that say which project and languages are meant.
 fn choosing<'a>(alloc: Global) -> Result<Command<'a>, AllocError>
     ensures { IfOk result (IsShaped (shaped (codes "status") chosen_rules)) }
 {
-    let reference = each(alloc, "reference", "PATTERN").help(
+    let about = "Count what is translated, in each language of a project";
+    let command = with_argument(Ok(named(alloc, "status", about)), reference(alloc));
+    with_argument(with_argument(command, locales(alloc)), variable(alloc))
+}
+
+/// A pattern of the files that are translated from.
+fn reference<'a>(alloc: Global) -> Arg<'a>
+    ensures { IsLocal (each_rule (codes "reference")) result }
+{
+    each(alloc, "reference", "PATTERN").help(
         "With patterns in the place of l10n.toml, that of the source language, as 'l10n/en/**'",
-    );
-    let locales = option(alloc, "locale", "TAG").help("Only these languages; several as a,b");
-    Command::new(alloc, "status")
-        .about("Count what is translated, in each language of a project")
-        .arg(reference)?
-        .arg(locales)?
-        .arg(variable(alloc))
+    )
+}
+
+/// The languages that `status` counts.
+fn locales<'a>(alloc: Global) -> Arg<'a>
+    ensures { IsLocal (option_rule (codes "locale")) result }
+{
+    option(alloc, "locale", "TAG").help("Only these languages; several as a,b")
+}
+
+/// Whether `status` counts each file.
+fn files<'a>(alloc: Global) -> Arg<'a>
+    ensures { IsLocal (flag_rule (codes "files")) result }
+{
+    flag(alloc, "files").help("Count each file, too")
 }
 
 /// How `status` writes its table.
