@@ -1,7 +1,7 @@
 -- The program `ftl` and its commands, as `clap` knows them.
 use Rattle.std.specs.Prelude.{◌≡◌, List, [], ◌∷◌, ◌++◌, Some, Result, IfOk, true, false, codes}
 use Rattle.clap.specs.Lexer.{usize_max}
-use Rattle.clap.specs.Words.{App, Rule, Shape, Text, new_app, new_rule, rule_of, shape_of, with_subcommand}
+use Rattle.clap.specs.Words.{App, Rule, Shape, Text, app_of, new_app, new_rule, rule_of, shape_of, with_subcommand}
 use Rattle.clap.specs.Simple.{new_shape, on_top}
 use Rattle.clap.specs.declared.builder.action.ArgAction.TheVariants.{Append, SetTrue}
 use Rattle.clap.specs.declared.builder.arg.Arg.{Arg}
@@ -158,3 +158,7 @@ IsShaped shape c = (shape_of c ≡ shape) × ((fields_of c).has_globals ≡ fals
 abbrev pub AddsArgument : {E : Type 0} → Result Command E → Arg → Result Command E → Type 0
 AddsArgument command a more =
     (shape : Shape) → (rule : Rule) → IfOk command (IsShaped shape) → IsLocal rule a → IfOk more (IsShaped (with_argument shape rule))
+
+-- With one more command, a program keeps what it is, but for one more shape.
+abbrev pub AddsCommand : {E : Type 0} → App → Result Command E → Result Command E → Type 0
+AddsCommand program command more = (shape : Shape) → IfOk command (IsShaped shape) → IfOk more (λ m. app_of m ≡ with_subcommand program shape)

@@ -1,7 +1,7 @@
 //! The program and its commands, as `clap` knows them.
 ghost use Rattle.std.specs.Prelude.{◌≡◌, ◌∷◌, [], false, codes, IfOk};
 ghost use Rattle.clap.specs.Words.{app_of, rule_of, with_subcommand};
-ghost use Rattle.ftl_arguments.specs.Commands.{AddsArgument, IsShaped, IsLocal, shaped, with_command};
+ghost use Rattle.ftl_arguments.specs.Commands.{AddsArgument, AddsCommand, IsShaped, IsLocal, shaped, with_command};
 ghost use Rattle.ftl_arguments.specs.Commands.{flag_rule, option_rule, each_rule, default_rule};
 ghost use Rattle.ftl_arguments.specs.Commands.{id_rule, file_rule, files_rule};
 ghost use Rattle.ftl_arguments.specs.Commands.{bare_program, program_app, asking_rules, flagged_rules, format_shape, run_shape};
@@ -124,7 +124,7 @@ fn with_file<'a>(
     ensures { IfOk result (λ more.
         app_of more ≡ with_command (app_of program.entry) name.entry.now file_rule) }
 {
-    program.subcommand(command_of(alloc, name, about, file(alloc))?)
+    with_subcommand(program, command_of(alloc, name, about, file(alloc)))
 }
 
 /// The program with one more command, on one or more files.
@@ -137,7 +137,17 @@ fn with_files<'a>(
     ensures { IfOk result (λ more.
         app_of more ≡ with_command (app_of program.entry) name.entry.now files_rule) }
 {
-    program.subcommand(command_of(alloc, name, about, files(alloc))?)
+    with_subcommand(program, command_of(alloc, name, about, files(alloc)))
+}
+
+/// The program with one more command, if there was memory for the command and there is for this.
+pub(crate) fn with_subcommand<'a>(
+    program: Command<'a>,
+    command: Result<Command<'a>, AllocError>,
+) -> Result<Command<'a>, AllocError>
+    ensures { AddsCommand (app_of program.entry) command.entry result }
+{
+    program.subcommand(command?)
 }
 
 /// A command with this argument alone.
@@ -170,7 +180,7 @@ fn run<'a>(alloc: Global) -> Result<Command<'a>, AllocError>
 fn with_format<'a>(alloc: Global, program: Command<'a>) -> Result<Command<'a>, AllocError>
     ensures { IfOk result (λ more. app_of more ≡ with_subcommand (app_of program.entry) format_shape) }
 {
-    program.subcommand(format(alloc)?)
+    with_subcommand(program, format(alloc))
 }
 
 /// The command `format`.
@@ -187,7 +197,7 @@ fn format<'a>(alloc: Global) -> Result<Command<'a>, AllocError>
 fn with_lint<'a>(alloc: Global, program: Command<'a>) -> Result<Command<'a>, AllocError>
     ensures { IfOk result (λ more. app_of more ≡ with_subcommand (app_of program.entry) lint_shape) }
 {
-    program.subcommand(lint(alloc)?)
+    with_subcommand(program, lint(alloc))
 }
 
 /// The command `lint`.

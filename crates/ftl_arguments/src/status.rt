@@ -3,7 +3,7 @@ ghost use Rattle.std.specs.Prelude.{◌≡◌, IfOk, codes};
 ghost use Rattle.clap.specs.Words.{app_of, with_subcommand};
 ghost use Rattle.ftl_arguments.specs.Commands.{IsLocal, IsShaped, chosen_rules, default_rule, each_rule, flag_rule, option_rule, project_paths_rule, shaped, status_shape};
 
-use crate::program::{each, flag, named, option, option_or, with_argument};
+use crate::program::{each, flag, named, option, option_or, with_argument, with_subcommand};
 use clap::{Arg, Command};
 use std::alloc::{AllocError, Global};
 
@@ -20,7 +20,7 @@ pub(crate) fn with_status<'a>(
 ) -> Result<Command<'a>, AllocError>
     ensures { IfOk result (λ more. app_of more ≡ with_subcommand (app_of program.entry) status_shape) }
 {
-    program.subcommand(status(alloc)?)
+    with_subcommand(program, status(alloc))
 }
 
 /// The command `status`.

@@ -7,7 +7,7 @@ ghost use Rattle.ftl_arguments.specs.Meaning.{texts, tidy_in};
 ghost use Rattle.ftl_arguments.specs.TidyFiles.{is_input, tidy_files_in};
 
 use crate::commands::{Command as Meant, TidyFiles};
-use crate::program::flag;
+use crate::program::{flag, with_subcommand};
 use crate::reading::{is_given, values_in};
 use clap::{Arg, ArgMatches, Command};
 use std::alloc::{AllocError, Global};
@@ -25,7 +25,7 @@ Example: ftl tidy --check locales";
 pub(crate) fn with_tidy<'a>(alloc: Global, program: Command<'a>) -> Result<Command<'a>, AllocError>
     ensures { IfOk result (λ more. app_of more ≡ with_subcommand (app_of program.entry) tidy_shape) }
 {
-    program.subcommand(tidy(alloc)?)
+    with_subcommand(program, tidy(alloc))
 }
 
 /// The command `tidy`.
