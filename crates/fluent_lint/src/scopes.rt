@@ -69,8 +69,18 @@ pub fn after_line(at: usize, line: &str) -> Result<usize, AllocError>
     sum(end, 1)
 }
 
-/// What a line leaves out, and the list of codes.
+/// What a line leaves out, and the list of codes. Most lines are no comments.
 pub fn silencing(line: &str) -> Option<(Scope, &str)>
+    ensures { silencing_view result ≡ silencing line.now }
+{
+    if begins_with_sign(line.as_bytes()) {
+        comment_silencing(line)
+    } else {
+        None
+    }
+}
+
+fn comment_silencing(line: &str) -> Option<(Scope, &str)>
     ensures { silencing_view result ≡ silencing line.now }
 {
     if let Some(list) = line.strip_prefix("# lint-ignore:") {

@@ -21,7 +21,6 @@ use Rattle.lint_entries.specs.Made.{Adds}
 use Rattle.lint_findings.specs.declared.records.Finding as code
 use Rattle.lint_nodes.specs.declared.name_set.Names.{Names}
 use Rattle.lint_findings.specs.Comparison.{union}
-use Rattle.lint_findings.specs.ComparisonFindings.{loss_findings}
 use Rattle.lint_findings.specs.Finding.{Finding, finding_at}
 use Rattle.lint_findings.specs.Losses as l
 use Rattle.lint_findings.specs.Nodes as n
@@ -45,17 +44,15 @@ value_nodes value = flat_map elements_nodes (option_to_list (option_map elements
 abbrev pub AddsLosses : Vec Loss Global → Vec Loss Global → List l.Loss → Type 0
 AddsLosses old new added = map loss_view new.items ≡ map loss_view old.items ++ added
 
--- of a message of the catalog
-abbrev pub AreLossesOf : FluentIds (Unit {0}) → Option LanguagePlurals → Message (Bor Text) → Vec Loss Global → Type 0
-AreLossesOf reference plurals message losses =
-    map loss_view losses.items ≡ l.losses (ids_view (Unit {0}) reference) plurals (message_of message)
-
 -- of a message that both have
 abbrev pub losses_between : FluentIds (Unit {0}) → Option LanguagePlurals → Message (Bor Text) → Message (Bor Text) → List l.Loss
 losses_between reference plurals message other =
     let m = message_of message in
     let o = message_of other in
     l.losses_by (ids_view (Unit {0}) reference) plurals m o (l.message_nodes m) (l.message_nodes o)
+
+abbrev pub AreLossesOf : FluentIds (Unit {0}) → Option LanguagePlurals → Message (Bor Text) → Message (Bor Text) → Vec Loss Global → Type 0
+AreLossesOf reference plurals message other losses = map loss_view losses.items ≡ losses_between reference plurals message other
 
 -- the same of a message with these nodes
 abbrev pub losses_beside : FluentIds (Unit {0}) → Option LanguagePlurals → Message (Bor Text) → List Node → Message (Bor Text) → List l.Loss
@@ -101,7 +98,11 @@ losses_at id offset losses = map (λ loss. finding_at offset id (l.loss_remark l
 abbrev pub FindsAt : Text → ℕ → List Loss → Vec code.Finding Global → Vec code.Finding Global → Type 0
 FindsAt id offset losses old new = Adds old new (losses_at id offset losses)
 
--- the findings of a message at the front of a text are added
-abbrev pub FindsLosses : FluentIds (Unit {0}) → Option LanguagePlurals → Text → Message (Bor Text) → Text → Vec code.Finding Global → Vec code.Finding Global → Type 0
-FindsLosses reference plurals source message text old new =
-    Adds old new (loss_findings (ids_view (Unit {0}) reference) plurals source (message_of message) text)
+-- what a message loses of that of the reference, at this offset
+abbrev pub loss_found : FluentIds (Unit {0}) → Option LanguagePlurals → Message (Bor Text) → Message (Bor Text) → ℕ → List Finding
+loss_found reference plurals message other offset =
+    map (λ loss. finding_at offset message.id.name.now (l.loss_remark loss)) (losses_between reference plurals message other)
+
+abbrev pub FindsLosses : FluentIds (Unit {0}) → Option LanguagePlurals → Message (Bor Text) → Message (Bor Text) → ℕ →
+    Vec code.Finding Global → Vec code.Finding Global → Type 0
+FindsLosses reference plurals message other offset old new = Adds old new (loss_found reference plurals message other offset)

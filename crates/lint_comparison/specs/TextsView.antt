@@ -15,7 +15,7 @@ use Rattle.lint_comparison.specs.declared.texts.Texts.{Texts}
 use Rattle.lint_entries.specs.AttributePlaces.{places_of_attributes}
 use Rattle.lint_entries.specs.Made.{Adds}
 use Rattle.lint_findings.specs.declared.records.Finding.{Finding}
-use Rattle.lint_findings.specs.ComparisonFindings.{spotted_finding, text_findings, texts_findings}
+use Rattle.lint_findings.specs.ComparisonFindings.{spotted_finding, texts_findings}
 use Rattle.lint_findings.specs.Doubts as d
 use Rattle.lint_findings.specs.EntryFindings.{finding_in}
 use Rattle.lint_findings.specs.Finding as f
@@ -23,7 +23,7 @@ use Rattle.lint_findings.specs.Occurrences.{entry_places}
 use Rattle.lint_findings.specs.Pairs.{on_attribute, on_texts}
 use Rattle.lint_findings.specs.Runs.{place_of}
 use Rattle.lint_findings.specs.View.{finding_view}
-use Rattle.lint_markup.specs.InCode.{Said, spotted_view, spotted_views}
+use Rattle.lint_markup.specs.InCode.{Said, said, spotted_view, spotted_views}
 use Rattle.lint_markup.specs.declared.spotted.Spotted.{Spotted}
 use Rattle.lint_texts.specs.OfMessages.{on_attribute_in, on_values}
 
@@ -38,6 +38,10 @@ attributes_said m o as' = list_any is_said (map (on_attribute (message_of m) (me
 
 abbrev pub are_any_said : Message (Bor Text) → Message (Bor Text) → Bool
 are_any_said m o = list_any is_said (on_texts (message_of m) (message_of o))
+
+-- this is said of the value of a message
+abbrev pub AreOfValue : Message (Bor Text) → Message (Bor Text) → List Spotted → Type 0
+AreOfValue message other doubts = spotted_views doubts ≡ map said (on_values message other)
 
 -- ---- of one text
 
@@ -86,7 +90,3 @@ found_beside texts s = beside_found texts.source.now texts.message.now texts.oth
 
 abbrev pub found_in_attributes : Texts → List (Attribute (Bor Text)) → Text → List f.Finding
 found_in_attributes texts as' s = attributes_found texts (attributes_of as') s
-
--- of a message of the catalog, by the ids of the reference
-abbrev pub texts_found : FluentIds (Unit {0}) → Text → Message (Bor Text) → Text → List f.Finding
-texts_found reference source message s = text_findings (ids_view (Unit {0}) reference) source (message_of message) s

@@ -12,32 +12,30 @@ use crate::lacking::push_lacking;
 use crate::loss::Loss;
 use crate::written::push_written;
 use fluent_ast::{Message, Pattern};
-use fluent_ids::GetEntry;
 use fluent_plurals::LanguagePlurals;
 use lint_findings::{CatalogIds, Finding};
 use lint_flaws::{push_attributes, push_nodes};
 use lint_nodes::Node;
 use std::alloc::{AllocError, Global};
 
-/// Adds the findings of what a message of the catalog loses. The text is the source from the
-/// message on.
+/// Adds the findings of what a message of the catalog loses of that of the reference, at this
+/// offset.
 ///
 /// # Errors
 /// [`AllocError`] if memory runs out; some may be added then.
-pub fn push_loss_findings(
+pub fn push_loss_findings<'t>(
     alloc: Global,
-    reference: &CatalogIds<'_, '_>,
+    reference: &CatalogIds<'_, 't>,
     plurals: Option<LanguagePlurals>,
-    source: &str,
     message: &Message<&str>,
-    text: &[u8],
+    other: &Message<&'t str>,
+    offset: usize,
     findings: &mut Vec<Finding>,
 ) -> Result<(), AllocError>
-    ensures { OnOk result (FindsLosses reference.now plurals source.now message.now text.now
+    ensures { OnOk result (FindsLosses reference.now plurals message.now other.now offset
         findings.old findings.new) }
 {
-    let losses = message_losses(alloc, reference, plurals, message)?;
-    let offset = source.len().saturating_sub(text.len());
+    let losses = message_losses(alloc, reference, plurals, message, other)?;
     push_findings(alloc, message.id.name, offset, &losses, findings)
 }
 
@@ -57,8 +55,7 @@ fn push_findings(
     Ok(())
 }
 
-/// What a message of the catalog loses of that of the reference with its id, by the rules of a
-/// language, if they are known.
+/// What a message loses of that of the reference, by the rules of a language, if they are known.
 ///
 /// # Errors
 /// [`AllocError`] if memory runs out; nothing is kept.
@@ -67,13 +64,12 @@ fn message_losses<'i, 's: 'i, 't: 'i>(
     reference: &CatalogIds<'_, 't>,
     plurals: Option<LanguagePlurals>,
     message: &Message<&'s str>,
+    other: &Message<&'t str>,
 ) -> Result<Vec<Loss<'i>>, AllocError>
-    ensures { IfOk result (AreLossesOf reference.now plurals message.now) }
+    ensures { IfOk result (AreLossesOf reference.now plurals message.now other.now) }
 {
     let mut losses = Vec::new(alloc);
-    if let Some(other) = reference.get_entry_message(message.id.name) {
-        push_losses(alloc, reference, plurals, message, other, &mut losses)?;
-    }
+    push_losses(alloc, reference, plurals, message, other, &mut losses)?;
     Ok(losses)
 }
 

@@ -4,7 +4,7 @@
 ghost use Rattle.std.specs.Prelude.{OnOk};
 ghost use Rattle.fluent_ast.specs.Borrowed.{message_of};
 ghost use Rattle.fluent_grammar.specs.Tree as t;
-ghost use Rattle.lint_comparison.specs.ComparedBy.{compared_by, message_compared};
+ghost use Rattle.lint_comparison.specs.ComparedBy.{compared_by, found_by, message_compared};
 ghost use Rattle.lint_entries.specs.AttributePlaces.{IsEntryAt, bare_entry};
 ghost use Rattle.lint_entries.specs.Made.{Adds};
 
@@ -12,6 +12,7 @@ use crate::findings::difference_findings;
 use crate::losses::push_loss_findings;
 use crate::texts::push_text_findings;
 use fluent_ast::{Entry, Message};
+use fluent_ids::GetEntry;
 use fluent_plurals::LanguagePlurals;
 use lint_findings::{CatalogIds, Finding};
 use std::alloc::{AllocError, Global};
@@ -77,15 +78,37 @@ impl<'s> Reference<'_, '_, 's> {
             text,
         )?;
         findings.append(&mut found)?;
+        match self.reference.get_entry_message(message.id.name) {
+            Some(other) => self.push_beside(alloc, source, message, other, text, findings),
+            None => Ok(()),
+        }
+    }
+
+    /// Adds what a message loses of that of the reference, and what is said of its texts beside
+    /// those of that.
+    fn push_beside(
+        &self,
+        alloc: Global,
+        source: &str,
+        message: &Message<&'s str>,
+        other: &Message<&'s str>,
+        text: &[u8],
+        findings: &mut Vec<Finding>,
+    ) -> Result<(), AllocError>
+        requires { IsEntryAt (t.message (message_of message.now)) text.now }
+        ensures { OnOk result (Adds findings.old findings.new
+            (found_by self.now source.now message.now other.now text.now)) }
+    {
+        let offset = source.len().saturating_sub(text.len());
         push_loss_findings(
             alloc,
             self.reference,
             self.plurals,
-            source,
             message,
-            text,
+            other,
+            offset,
             findings,
         )?;
-        push_text_findings(alloc, self.reference, source, message, text, findings)
+        push_text_findings(alloc, source, message, other, text, findings)
     }
 }

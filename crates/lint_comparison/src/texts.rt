@@ -5,7 +5,7 @@ ghost use Rattle.std.specs.Prelude.{◌≡◌, IfOk, OnOk, option_map, string_by
 ghost use Rattle.fluent_ast.specs.Borrowed.{attributes_of, elements_of, message_of};
 ghost use Rattle.fluent_grammar.specs.Tree as t;
 ghost use Rattle.lint_comparison.specs.InCode.{LeavesOfValue};
-ghost use Rattle.lint_comparison.specs.TextsView.{AddsDoubts, IsFindingOf, are_any_said, attribute_found, attributes_found, attributes_said, beside_found, found_beside, found_in_attributes, is_found, owner_of, texts_found, value_found};
+ghost use Rattle.lint_comparison.specs.TextsView.{AddsDoubts, AreOfValue, IsFindingOf, are_any_said, attribute_found, attributes_said, beside_found, found_beside, found_in_attributes, owner_of, value_found};
 ghost use Rattle.lint_entries.specs.Added.{LeavesAfter};
 ghost use Rattle.lint_entries.specs.AttributePlaces.{AreAttributes, IsEntryAt, value_elements};
 ghost use Rattle.lint_entries.specs.Made.{Adds};
@@ -15,10 +15,9 @@ ghost use Rattle.lint_markup.specs.InCode.{spotted_view};
 ghost use Rattle.lint_nodes.specs.OccurrenceView.{IsPatternAt};
 
 use fluent_ast::{Attribute, Message, Pattern};
-use fluent_ids::GetEntry;
 use fluent_tokens::front;
 use lint_entries::text::{after_equals, skip_blank_block, skip_spaces};
-use lint_findings::{CatalogIds, Finding};
+use lint_findings::Finding;
 use lint_markup::Spotted;
 use lint_nodes::words::skip_blank;
 use lint_nodes::{empty_pattern_rest, pattern_occurrences, skip};
@@ -26,32 +25,13 @@ use lint_texts::{attribute_doubts, value_doubts};
 use memchr::memmem;
 use std::alloc::{AllocError, Global};
 
-/// Adds the findings of the texts of a message of the catalog. The text is the source from the
-/// message on.
+/// Adds the findings of the texts of a message beside those of the message of the reference. The
+/// text is the source from the message on. The patterns are read again only if something is said
+/// of one.
 ///
 /// # Errors
 /// [`AllocError`] if memory runs out; some may be added then.
 pub fn push_text_findings<'s>(
-    alloc: Global,
-    reference: &CatalogIds<'_, 's>,
-    source: &str,
-    message: &Message<&'s str>,
-    text: &[u8],
-    findings: &mut Vec<Finding>,
-) -> Result<(), AllocError>
-    requires { IsEntryAt (t.message (message_of message.now)) text.now }
-    ensures { OnOk result (Adds findings.old findings.new
-        (texts_found reference.now source.now message.now text.now)) }
-{
-    match reference.get_entry_message(message.id.name) {
-        Some(other) => push_beside(alloc, source, message, other, text, findings),
-        None => Ok(()),
-    }
-}
-
-/// Adds those of a message that both have. Its patterns are read again only if something is said
-/// of one.
-fn push_beside<'s>(
     alloc: Global,
     source: &str,
     message: &Message<&'s str>,
@@ -63,27 +43,30 @@ fn push_beside<'s>(
     ensures { OnOk result (Adds findings.old findings.new
         (beside_found source.now message.now other.now text.now)) }
 {
-    if are_any_said(alloc, message, other)? {
+    let doubts = value_doubts(alloc, message, other)?;
+    if are_any_said(alloc, message, other, &doubts)? {
         let texts = Texts {
             source,
             message,
             other,
         };
-        texts.push_findings(alloc, text, findings)
+        texts.push_findings(alloc, text, doubts, findings)
     } else {
         Ok(())
     }
 }
 
-/// Whether something is said of the texts of a message beside those of another.
+/// Whether something is said of the texts of a message beside those of another, if this is said of
+/// its value.
 fn are_any_said<'s>(
     alloc: Global,
     message: &Message<&'s str>,
     other: &Message<&'s str>,
+    doubts: &[Spotted],
 ) -> Result<bool, AllocError>
+    requires { AreOfValue message.now other.now doubts.now }
     ensures { IfOk result (λ any. any ≡ are_any_said message.now other.now) }
 {
-    let doubts = value_doubts(alloc, message, other)?;
     if doubts.is_empty() {
         are_attributes_said(alloc, message, other, &message.attributes)
     } else {
@@ -118,34 +101,38 @@ pub(crate) struct Texts<'p, 's> {
 }
 
 impl<'s> Texts<'_, 's> {
-    /// Adds the findings of all texts. The text is the source from the message on.
+    /// Adds the findings of all texts, if this is said of the value. The text is the source from
+    /// the message on.
     fn push_findings(
         &self,
         alloc: Global,
         text: &[u8],
+        doubts: Vec<Spotted>,
         findings: &mut Vec<Finding>,
     ) -> Result<(), AllocError>
-        requires { IsEntryAt (t.message (message_of self.now.message.now)) text.now }
+        requires text { IsEntryAt (t.message (message_of self.now.message.now)) text.now }
+        requires doubts { AreOfValue self.now.message.now self.now.other.now doubts.items }
         ensures { OnOk result (Adds findings.old findings.new (found_beside self.now text.now)) }
     {
-        let rest = self.push_value(alloc, after_equals(text), findings)?;
+        let rest = self.push_value(alloc, after_equals(text), doubts, findings)?;
         let attributes = skip_blank_block(rest);
         self.push_attributes(alloc, &self.message.attributes, attributes, findings)
     }
 
-    /// Adds the findings of the value. The text is the source from the value on. Returns what
-    /// follows it.
+    /// Adds the findings of the value, if this is said of it. The text is the source from the value
+    /// on. Returns what follows it.
     fn push_value<'t>(
         &self,
         alloc: Global,
         text: &'t [u8],
+        doubts: Vec<Spotted>,
         findings: &mut Vec<Finding>,
     ) -> Result<&'t [u8], AllocError>
-        requires { IsPatternAt text.now (value_elements (option_map elements_of self.now.message.now.value)) }
+        requires text { IsPatternAt text.now (value_elements (option_map elements_of self.now.message.now.value)) }
+        requires doubts { AreOfValue self.now.message.now self.now.other.now doubts.items }
         ensures rest { IfOk result (λ rest. LeavesOfValue self.now.message.now.value text.now rest.now) }
         ensures added { OnOk result (Adds findings.old findings.new (value_found self.now text.now)) }
     {
-        let doubts = value_doubts(alloc, self.message, self.other)?;
         let rest = value_rest(alloc, &self.message.value, text)?;
         self.push_doubts(alloc, None, text, rest, doubts, findings)?;
         Ok(rest)

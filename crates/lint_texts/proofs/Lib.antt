@@ -9,3 +9,4 @@ pub mod QuoteSteps
 pub mod Doubting
 pub mod EndSteps
 pub mod Passing
+pub mod FirstLooks

@@ -21,7 +21,7 @@ other_first c [] z h = refl
 other_first c (d ∷ []) z h = refl
 other_first c (d ∷ x ∷ s) z h = ap (λ b. b && (d == 0x80 && x == z)) h
 
-passes : PassesOver (is_byte 0xE2) curly_from
+pub passes : PassesOver (is_byte 0xE2) curly_from
 passes c s h =
     ap (λ b. (if b || (begins_three 0xE2 0x80 0x9D (c ∷ s) || begins_three 0xE2 0x80 0x9E (c ∷ s)) then (c ∷ s) ∷ [] else []) ++ curly_from s) (other_first c s 0x9C h)
     ∙ ap (λ b. (if b || begins_three 0xE2 0x80 0x9E (c ∷ s) then (c ∷ s) ∷ [] else []) ++ curly_from s) (other_first c s 0x9D h)

@@ -5,3 +5,4 @@ pub mod NumberParts
 pub mod OfMessages
 pub mod Parts
 pub mod Quotes
+pub mod Spaces

@@ -4,7 +4,7 @@ use Rattle.std.specs.Global.{Global}
 use denote.Ref.{Bor}
 use Rattle.fluent_grammar.specs.Words.{Text, begins, is_digit}
 use Rattle.lint_findings.specs.Letters.{begins_three}
-use Rattle.lint_findings.specs.Typing.{curly_at}
+use Rattle.lint_findings.specs.Typing.{curly_at, has_text}
 
 -- a text begins with a byte that begins a character
 abbrev pub begins_character : Text → Bool
@@ -21,3 +21,6 @@ if_curly s = if curly_at s then s ∷ [] else []
 abbrev pub begins_inches : Text → Bool
 begins_inches [] = false
 begins_inches (c ∷ s) = is_digit c && begins_three 0xE2 0x80 0x9D s
+
+abbrev pub has_ellipsis : Text → Bool
+has_ellipsis s = has_text (0xE2 ∷ 0x80 ∷ 0xA6 ∷ []) s

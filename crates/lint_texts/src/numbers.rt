@@ -213,7 +213,12 @@ fn push_numbers<'t>(
 fn has_digit(text: &[u8]) -> bool
     ensures { result ≡ list_any is_digit text.now }
 {
-    text.iter().any(|byte| byte.is_ascii_digit())
+    for byte in text {
+        if byte.is_ascii_digit() {
+            return true;
+        }
+    }
+    false
 }
 
 fn push_each<'t>(parts: &[&'t str], found: &mut Vec<Number<'t>>) -> Result<(), AllocError>

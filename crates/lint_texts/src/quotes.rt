@@ -9,7 +9,7 @@ ghost use Rattle.lint_findings.specs.Letters.{begins_three};
 ghost use Rattle.lint_findings.specs.Typing as t;
 ghost use Rattle.lint_markup.specs.InCode.{Adds, AddsBeside, IsOn, texts_of};
 ghost use Rattle.lint_texts.specs.Beside.{first_said};
-ghost use Rattle.lint_texts.specs.Quotes.{AddsTexts, begins_character, begins_inches, if_curly};
+ghost use Rattle.lint_texts.specs.Quotes.{AddsTexts, begins_character, begins_inches, has_ellipsis, if_curly};
 
 use crate::parts::plain_parts;
 use crate::spotting::push_note_at;
@@ -19,7 +19,7 @@ use lint_nodes::skip;
 use memchr::{memchr, memmem};
 use std::alloc::{AllocError, Global};
 
-/// The first byte of curly quotes.
+/// The first byte of curly quotes, and of an ellipsis.
 const FIRST: u8 = 0xE2;
 
 /// Adds that a text has three dots, where the reference has an ellipsis.
@@ -34,7 +34,7 @@ pub fn push_three_dots(
 ) -> Result<(), AllocError>
     ensures { OnOk result (AddsBeside t.dots_beside texts.now others.now found.old found.new) }
 {
-    if have(others, "…") && !have(others, "...") {
+    if have_ellipsis(others) && !have(others, "...") {
         push_first_dots(alloc, texts, found)
     } else {
         Ok(())
@@ -52,6 +52,27 @@ fn push_first_dots(
     match first_from(texts, "...") {
         Some(at) => push_note_at(alloc, at, "three-dots", "the reference has `…`", found),
         None => Ok(()),
+    }
+}
+
+fn have_ellipsis(texts: &[String]) -> bool
+    ensures { result ≡ list_any has_ellipsis (texts_of texts.now) }
+{
+    for text in texts {
+        if has_ellipsis(text.as_str()) {
+            return true;
+        }
+    }
+    false
+}
+
+/// Whether a text has an ellipsis. Most lack even its first byte.
+fn has_ellipsis(text: &str) -> bool
+    ensures { result ≡ has_ellipsis text.now }
+{
+    match memchr(FIRST, text.as_bytes()) {
+        Some(_) => from_text("…", text).is_some(),
+        None => false,
     }
 }
 
@@ -138,11 +159,21 @@ fn have_curly(texts: &[String]) -> bool
     ensures { result ≡ list_any t.has_curly (texts_of texts.now) }
 {
     for text in texts {
-        if from_text("“", text.as_str()).is_some() || from_text("”", text.as_str()).is_some() {
+        if has_curly(text.as_str()) {
             return true;
         }
     }
     false
+}
+
+/// Whether a text has a curly quote. Most lack even its first byte.
+fn has_curly(text: &str) -> bool
+    ensures { result ≡ t.has_curly text.now }
+{
+    match memchr(FIRST, text.as_bytes()) {
+        Some(_) => from_text("“", text).is_some() || from_text("”", text).is_some(),
+        None => false,
+    }
 }
 
 /// From the first straight quote outside of tags on, up to the next tag.
@@ -274,6 +305,15 @@ fn quote_at(text: &[u8]) -> &'static str
 
 /// The ends of a text that begin with a curly quote outside of tags, each up to the next tag.
 fn curly_ends(alloc: Global, text: &str) -> Result<Vec<&str>, AllocError>
+    ensures { IfOk result (λ ends. map (λ s. s.now) ends.items ≡ t.curly_ends text.now) }
+{
+    match memchr(FIRST, text.as_bytes()) {
+        Some(_) => ends_of_parts(alloc, text),
+        None => Ok(Vec::new(alloc)),
+    }
+}
+
+fn ends_of_parts(alloc: Global, text: &str) -> Result<Vec<&str>, AllocError>
     ensures { IfOk result (λ ends. map (λ s. s.now) ends.items ≡ t.curly_ends text.now) }
 {
     let parts = plain_parts(alloc, text)?;

@@ -11,6 +11,7 @@ ghost use Rattle.lint_findings.specs.Typing as t;
 ghost use Rattle.lint_markup.specs.InCode.{Adds, AddsBeside, AddsOfPair, AreRunsOf, texts_of};
 ghost use Rattle.lint_texts.specs.Beside.{AddsOne, first_said};
 ghost use Rattle.lint_texts.specs.InCode.{edge_view};
+ghost use Rattle.lint_texts.specs.Spaces.{has_two_spaces};
 
 use crate::own::{reference_of, text_of};
 use crate::spotting::{push_note, push_note_at};
@@ -207,6 +208,31 @@ fn first_spaces(texts: &[String]) -> Option<&str>
 /// The text from the first two spaces on that something stands before, and something follows. If
 /// not all count, it is nothing that ends a sentence.
 fn first_double(all: bool, text: &str) -> Option<&str>
+    ensures { option_map (λ s. s.now) result ≡ t.spaces_after (t.counts all) false text.now }
+{
+    if has_two_spaces(text.as_bytes()) {
+        double_within(all, text)
+    } else {
+        None
+    }
+}
+
+/// Whether two spaces stand somewhere in a text, which is rare.
+fn has_two_spaces(text: &[u8]) -> bool
+    ensures { result ≡ has_two_spaces false text.now }
+{
+    let mut before = false;
+    for byte in text {
+        let is_space = *byte == b' ';
+        if before && is_space {
+            return true;
+        }
+        before = is_space;
+    }
+    false
+}
+
+fn double_within(all: bool, text: &str) -> Option<&str>
     ensures { option_map (λ s. s.now) result ≡ t.spaces_after (t.counts all) false text.now }
 {
     let bytes = text.as_bytes();

@@ -1,12 +1,9 @@
-use Rattle.std.proofs.Common.{None}
-use Rattle.std.specs.Prelude.{codes}
-use Rattle.fluent_lint.proofs.Silencing.{by_fronts, without_front}
+use Rattle.std.proofs.Common.{◌≡◌, false, rules}
+use Rattle.fluent_grammar.specs.Words.{begins_with, number_sign}
+use Rattle.fluent_lint.proofs.Silencing.{no_comment}
 use Rattle.fluent_lint.proofs.scopes.silencing.Goals as goal
 
-pub returns-in-None : goal.returns-in-None
-returns-in-None c =
-    let line = c.args.line.now in
-    by_fronts line None None None
-    (without_front (codes "# lint-ignore:") line c.in_default.ensures.cases)
-    (without_front (codes "## lint-ignore:") line c.in_default-strip_prefix.ensures.cases)
-    (without_front (codes "### lint-ignore:") line c.in-None.ensures.cases)
+pub returns-else-begins_with_sign : goal.returns-else-begins_with_sign
+returns-else-begins_with_sign c =
+    let none : begins_with number_sign c.args.line.now ≡ false = search rules in
+    no_comment c.args.line.now none

@@ -9,15 +9,15 @@ returns-then-is_empty c =
     let m = c.args.message.now in
     let o = c.args.other.now in
     let here = on_values m o in
-    let empty : true ≡ (length c.in_ok-doubts.doubts.items == 0) = search rules in
-    let nothing : is_said here ≡ false = is_said_if true (is_said here) (empty ∙ empty_is c.in_ok-doubts.doubts.items here c.in_ok-doubts.ensures) in
+    let empty : true ≡ (length c.args.doubts.now == 0) = search rules in
+    let nothing : is_said here ≡ false = is_said_if true (is_said here) (empty ∙ empty_is c.args.doubts.now here c.requires) in
     search rules
 
-pub returns : goal.returns
-returns c =
+pub returns-else-is_empty : goal.returns-else-is_empty
+returns-else-is_empty c =
     let m = c.args.message.now in
     let o = c.args.other.now in
     let here = on_values m o in
-    let empty : false ≡ (length c.in_ok-doubts.doubts.items == 0) = search rules in
-    let said : is_said here ≡ true = is_said_if false (is_said here) (empty ∙ empty_is c.in_ok-doubts.doubts.items here c.in_ok-doubts.ensures) in
+    let empty : false ≡ (length c.args.doubts.now == 0) = search rules in
+    let said : is_said here ≡ true = is_said_if false (is_said here) (empty ∙ empty_is c.args.doubts.now here c.requires) in
     sym (ap (λ b. b || attributes_said m o m.attributes.items) said)

@@ -14,4 +14,4 @@ returns-clause-added c =
     c.in_ok-push_doubts.ensures
     ∙ ap (λ l. map finding_view c.args.findings.now.items ++ l)
     (said_are texts None c.args.text.now c.in_ok-rest.rest.now (value_elements (option_map elements_of value)) c.in_ok-rest.ensures
-    (spotted_views c.in_ok-doubts.doubts.items) (on_values texts.message.now texts.other.now) c.in_ok-doubts.ensures)
+    (spotted_views c.args.doubts.items) (on_values texts.message.now texts.other.now) c.requires.doubts)

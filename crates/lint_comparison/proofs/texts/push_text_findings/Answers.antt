@@ -4,7 +4,7 @@ use Rattle.lint_findings.specs.View.{finding_view}
 use Rattle.lint_findings.specs.Occurrences.{entry_places}
 use Rattle.lint_findings.specs.Pairs.{on_texts}
 use Rattle.lint_comparison.proofs.TextsFound.{nothing_found}
-use Rattle.lint_comparison.proofs.texts.push_beside.Goals as goal
+use Rattle.lint_comparison.proofs.texts.push_text_findings.Goals as goal
 
 pub returns-else-branch : goal.returns-else-branch
 returns-else-branch c =

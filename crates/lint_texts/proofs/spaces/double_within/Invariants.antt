@@ -1,6 +1,6 @@
 use Rattle.std.proofs.Common.{◌≡◌, false, drop}
 use Rattle.lint_findings.specs.Typing as t
-use Rattle.lint_texts.proofs.spaces.first_double.Given as goal
+use Rattle.lint_texts.proofs.spaces.double_within.Given as goal
 
 -- none so far
 abbrev pub invariant-loop-place : goal.invariant-loop-place
