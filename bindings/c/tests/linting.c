@@ -37,7 +37,7 @@ struct Row {
     "{\"file\":\"de.ftl\",\"messages\":2,\"missing\":null,\"obsolete\":0,\"untranslated\":0}\n" \
     "{\"file\":\"en.ftl\",\"messages\":2,\"missing\":0,\"obsolete\":null,\"untranslated\":null}\n"
 
-#define PLURAL FILE_OF("pl.ftl", "a = { $n ->\n   *[one] x\n }\n")
+#define PLURAL FILE_OF("pl.ftl", "a = { $n ->\n   *[one] { $n } x\n }\n")
 #define SAME_NOTE \
     "{\"code\":\"untranslated\",\"column\":1,\"entry\":\"a\",\"file\":\"de.ftl\",\"hint\":null,\"line\":1,\"offset\":0," \
     "\"severity\":\"note\",\"text\":\"the text is the same as in the reference\"}\n"

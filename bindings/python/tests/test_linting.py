@@ -106,7 +106,7 @@ class LintTest(unittest.TestCase):
         report = lint(files, reference=reference, notes=True)
         self.assertEqual([finding.code for finding in report.findings], ["untranslated", "obsolete-message", "unknown-function"])
         self.assertEqual(report.counts, [FileCounts("de.ftl", 2, None, 1, 1), FileCounts("en.ftl", 1, 0, None, None)])
-        plural = {"a": "a = { $n ->\n   *[one] x\n }\n"}
+        plural = {"a": "a = { $n ->\n   *[one] { $n } x\n }\n"}
         self.assertEqual(lint(plural, locale="en").findings, [])
         self.assertEqual(len(lint(plural, locale="cy").findings), 4)
         self.assertEqual(lint(plural, locale="C").findings, [])

@@ -205,7 +205,7 @@ class WorkspaceTest(WorkspaceCase):
             self.assertEqual(client.diagnostics(reference), [])
 
     def test_languages_of_files(self):
-        source = "a = { $n ->\n    [one] x\n   *[other] y\n}\n"
+        source = "a = { $n ->\n    [one] { $n } x\n   *[other] { $n } y\n}\n"
         self.client.start(self.root)
         # Polish lacks two categories, Czech one that whole numbers have, English none.
         for name, count in [
@@ -237,7 +237,7 @@ class WorkspaceTest(WorkspaceCase):
     def test_settings(self):
         self.client.start(self.root, functions=["DATE"], locale="pl", notes=1)
         self.assertIn("notes", self.client.told.pop(0)["params"]["message"])
-        uri = self.client.open("untitled:1", "a = { DATE() } { F() }\nb = { $n ->\n    [one] x\n   *[other] y\n}\n")
+        uri = self.client.open("untitled:1", "a = { DATE() } { F() }\nb = { $n ->\n    [one] { $n } x\n   *[other] { $n } y\n}\n")
         self.assertEqual(
             [each[0] for each in self.found(self.client.diagnostics(uri))],
             ["unknown-function"] + ["missing-category"] * 2,

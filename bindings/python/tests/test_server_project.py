@@ -32,7 +32,7 @@ class ProjectTest(WorkspaceCase):
         found = self.client.diagnostics(self.client.open(path))
         self.assertEqual([each["code"] for each in found], ["unknown-variable", "missing-message"])
         # The rules of Polish, though the folder above is named like Norwegian, and the one below like Ossetic.
-        source = "n = { $n ->\n    [one] y\n   *[other] x\n}\nm = { $n ->\n    [\n"
+        source = "n = { $n ->\n    [one] { $n } y\n   *[other] { $n } x\n}\nm = { $n ->\n    [\n"
         uri = self.client.open(self.file("text/no/pl/os/new.ftl", source))
         self.assertIn("missing-category", self.codes(uri))
         ask = at(uri, source, "    [\n", 5)
@@ -46,7 +46,7 @@ class ProjectTest(WorkspaceCase):
         self.file("l10n/en-US/m.ftl", "q = Q\nr = R\n")
         self.start(reference="l10n/en-US", locale="ja")
         self.assertEqual(self.codes(self.client.open(path)), ["unknown-variable", "missing-message"])
-        source = "n = { $n ->\n    [one] y\n   *[other] x\n}\n"
+        source = "n = { $n ->\n    [one] { $n } y\n   *[other] { $n } x\n}\n"
         self.assertIn("missing-category", self.codes(self.client.open(self.file("text/no/pl/x.ftl", source))))
         found = self.client.diagnostics(self.client.open(self.file("l10n/pl/m.ftl", "q = x\n" + source)))
         self.assertEqual([each["code"] for each in found], ["missing-message"])

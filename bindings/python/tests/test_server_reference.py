@@ -100,7 +100,7 @@ class MissingFilesTest(ReferenceCase):
 
 
 class LanguagesTest(ReferenceCase):
-    SOURCE = "a = { -brand }\nb = { $n ->\n    [one] x\n   *[other] y\n}\n"
+    SOURCE = "a = { -brand }\nb = { $n ->\n    [one] { $n } x\n   *[other] { $n } y\n}\n"
 
     def test_the_folder_beside_the_reference_is_the_language(self):
         """Names that are tags of other languages, below it, are no languages."""
@@ -168,7 +168,7 @@ class FixAllTest(ReferenceCase):
     def test_it_mends_what_needs_no_choice(self):
         self.file("l10n/en-US/m.ftl", "a = { $name } { $other }\nb = { $n }\n")
         source = (
-            "-brand = B\na = { $nmae } { -brnad } { $zzz }\nb = { $n ->\n    [one] x\n   *[other] y\n} { NUMBR($n) }\n"
+            "-brand = B\na = { $nmae } { -brnad } { $zzz }\nb = { $n ->\n    [one] { $n } x\n   *[other] { $n } y\n} { NUMBR($n) }\n"
         )
         self.client.start(self.root, reference="l10n/en-US")
         uri = self.client.open(self.root / "l10n/pl/m.ftl", source)
@@ -177,7 +177,7 @@ class FixAllTest(ReferenceCase):
             edited(source, fix["edit"]["changes"][uri]),
             source.replace("nmae", "name")
             .replace("brnad", "brand")
-            .replace("   *[other]", "    [few] y\n    [many] y\n   *[other]"),
+            .replace("   *[other]", "    [few] { $n } y\n    [many] { $n } y\n   *[other]"),
         )
         self.assertEqual(self.actions(uri, 0, only=["refactor"]), [])
         self.assertEqual([each["kind"] for each in self.actions(uri, 1, only=["source"])], ["source.fixAll.kozhvadi"])

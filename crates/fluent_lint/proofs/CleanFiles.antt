@@ -15,10 +15,9 @@ use Rattle.lint_findings.specs.Losses.{Loss, dropped_plural, lacking_variant, lo
 use Rattle.lint_findings.specs.Occurrences.{PatternPlace, entry_places}
 use Rattle.lint_findings.specs.Pairs.{on_texts}
 use Rattle.lint_findings.specs.DuplicateIds.{Declaration, duplicate_findings, duplicate_remark, first_declaration, id_of, label_of}
-use Rattle.lint_findings.specs.EntryFindings.{entry_findings}
 use Rattle.lint_findings.specs.Files.{File}
 use Rattle.lint_findings.specs.Finding.{Finding, finding_at}
-use Rattle.lint_findings.specs.Findings.{FileFinding, FileTile, Options, Rules, declarations_of_tile, findings_if_first, findings_in, findings_of_entry, findings_of_tile, findings_of_tiles, findings_with_reference, known_ids, missing_messages, tiles_in, translation_rules}
+use Rattle.lint_findings.specs.Findings.{FileFinding, FileTile, Options, Rules, declarations_of_tile, findings_if_first, findings_in, findings_of_entry, findings_of_tile, findings_of_tiles, findings_with_reference, known_ids, missing_messages, own_findings, tiles_in, translation_rules}
 use Rattle.lint_findings.specs.ReportLaws.{HasHarmlessCode, IsClean}
 use Rattle.lint_findings.specs.SyntaxFindings.{syntax_finding}
 use Rattle.lint_findings.specs.Tiles.{Tile, entry_tile, junk_tile}
@@ -170,7 +169,7 @@ all_missing_clean ids (x ∷ xs) =
 module _ (rules : Rules) where
   abbrev own_of_entry : Text → t.Entry → Text → Option Text → List Finding
   own_of_entry source e s None = []
-  own_of_entry source e s (Some id) = entry_findings rules.ids rules.reference rules.plurals source e s
+  own_of_entry source e s (Some id) = own_findings rules source e s
 
   abbrev own_of : File → Tile → List Finding
   own_of file (junk_tile at s refusal) = syntax_finding at s refusal ∷ []
@@ -189,7 +188,7 @@ module _ (rules : Rules) where
       Clean (findings_of_entry (with compare) before source e at s o) → Clean (own_of_entry source e s o)
   entry_own compare before source e at s None h = h
   entry_own compare before source e at s (Some id) h =
-      let own = entry_findings rules.ids rules.reference rules.plurals source e s in
+      let own = own_findings rules source e s in
       all_left HasHarmlessCode own _ (all_right HasHarmlessCode (duplicate_findings rules.functions before e at id) _ h)
 
   tile_own : (compare : Compare) (before : List Declaration) (file : File) (tile : Tile) → Clean (findings_of_tile (with compare) before file tile) → Clean (own_of file tile)
@@ -213,7 +212,7 @@ module _ (rules : Rules) where
     entry_clean before source e at s (Some id) h =
         let duplicates = duplicate_findings rules.functions before e at id in
         All-append HasHarmlessCode duplicates _ (duplicates_clean rules.functions before e at id)
-        (All-append HasHarmlessCode (entry_findings rules.ids rules.reference rules.plurals source e s) _ h (first_if (length duplicates == 0) source e at s))
+        (All-append HasHarmlessCode (own_findings rules source e s) _ h (first_if (length duplicates == 0) source e at s))
 
     tile_clean : (before : List Declaration) (file : File) (tile : Tile) → Clean (own_of file tile) → Clean (findings_of_tile (with compare) before file tile)
     tile_clean before file (junk_tile at s refusal) h = h

@@ -305,7 +305,9 @@ and a value that it takes.
         "missing-category
 
 A warning. The default variant is taken for numbers that have a form of their
-own in the language. Add the variant; Plurals says which numbers it is for.
+own in the language. Add the variant; Plurals says which numbers it is for. For
+`few` and `many` it is a note if no variant shows the number: one text may then
+fit all of them.
 
     $ cat missing-category.ftl
     files = { $n ->

@@ -5,8 +5,8 @@ ghost use Rattle.std.specs.Prelude.{◌≡◌};
 ghost use Rattle.fluent_ast.specs.Borrowed.{elements_of, expression_of, inline_of, variants_of};
 ghost use Rattle.lint_findings.specs.Shown as s;
 
-use crate::shown::arguments_show;
 use fluent_ast::{Expression, InlineExpression, Pattern, PatternElement, Variant};
+use lint_flaws::arguments_show;
 
 /// Whether a pattern shows a variable, whichever variants are chosen in it.
 #[cycle(always)]

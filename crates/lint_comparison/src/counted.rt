@@ -1,40 +1,14 @@
 //! Selects by numbers.
 #![tactic(auto)]
 
-ghost use Rattle.std.specs.Prelude.{◌≡◌, option_map};
+ghost use Rattle.std.specs.Prelude.{◌≡◌};
 ghost use Rattle.std.specs.List.{list_all, list_any};
-ghost use Rattle.fluent_ast.specs.Borrowed.{inline_of, key_of, positional_of, variants_of};
+ghost use Rattle.fluent_ast.specs.Borrowed.{key_of, variants_of};
 ghost use Rattle.lint_findings.specs.Losses as l;
 ghost use Rattle.lint_findings.specs.MissingCategories.{variant_keys};
 
-use fluent_ast::{InlineExpression, Variant, VariantKey};
-use lint_flaws::{category_named, returns_number};
-
-/// The variable whose plural category a selector has.
-pub fn counted<'s>(selector: &InlineExpression<&'s str>) -> Option<&'s str>
-    ensures { option_map (λ s. s.now) result ≡ l.counted (inline_of selector.now) }
-{
-    match selector {
-        InlineExpression::VariableReference { id } => Some(id.name),
-        InlineExpression::FunctionReference { id, arguments } => {
-            if returns_number(id.name) {
-                first_variable(&arguments.positional)
-            } else {
-                None
-            }
-        }
-        _ => None,
-    }
-}
-
-fn first_variable<'s>(arguments: &[InlineExpression<&'s str>]) -> Option<&'s str>
-    ensures { option_map (λ s. s.now) result ≡ l.first_variable (positional_of arguments.now) }
-{
-    match arguments.first() {
-        Some(InlineExpression::VariableReference { id }) => Some(id.name),
-        _ => None,
-    }
-}
+use fluent_ast::{Variant, VariantKey};
+use lint_flaws::category_named;
 
 /// Whether variants are chosen by a number: each key is a plural category or a number, and one
 /// isn't `other`.

@@ -8,14 +8,14 @@ ghost use Rattle.lint_comparison.specs.LossView.{AddsLosses, IsName, dropped_in,
 ghost use Rattle.lint_findings.specs.Losses as l;
 ghost use Rattle.lint_nodes.specs.NodeView.{node_view};
 
-use crate::counted::{are_categories, counted};
+use crate::counted::are_categories;
 use crate::loss::Loss;
 use crate::same::is_same_pattern;
 use crate::shown::message_shows;
 use fluent_ast::{InlineExpression, Message, Pattern, Variant};
 use fluent_number::PluralRuleType;
 use fluent_plurals::LanguagePlurals;
-use lint_flaws::{has_forms, selector_rule};
+use lint_flaws::{counted, has_forms, selector_rule};
 use lint_nodes::Node;
 use std::alloc::{AllocError, Global};
 

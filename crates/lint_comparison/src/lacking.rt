@@ -13,11 +13,10 @@ ghost use Rattle.lint_findings.specs.Nodes.{elements_nodes};
 ghost use Rattle.lint_nodes.specs.NodeView.{node_view};
 
 use crate::always::pattern_always_shows;
-use crate::counted::{are_counting, counted};
+use crate::counted::are_counting;
 use crate::loss::Loss;
-use crate::shown::pattern_shows;
 use fluent_ast::{InlineExpression, Pattern, Variant, VariantKey};
-use lint_flaws::first_quoted;
+use lint_flaws::{counted, first_quoted, pattern_shows};
 use lint_nodes::{Names, Node, key_text, pattern_nodes};
 use std::alloc::{AllocError, Global};
 

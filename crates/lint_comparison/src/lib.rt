@@ -41,3 +41,4 @@ pub use findings::missing_finding;
 pub use missing::missing_findings;
 pub use reference::Reference;
 pub use referred::{called_functions, referred_terms};
+pub use same::is_same_message;

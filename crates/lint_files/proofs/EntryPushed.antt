@@ -5,10 +5,9 @@ use Rattle.lint_entries.specs.AttributePlaces.{uncommented}
 use Rattle.lint_findings.specs.View.{finding_view}
 use Rattle.lint_findings.specs.declared.records.Finding as code
 use Rattle.lint_findings.specs.DuplicateIds.{Declaration, duplicate_findings, id_of}
-use Rattle.lint_findings.specs.EntryFindings.{entry_findings}
 use Rattle.lint_findings.specs.Files.{File}
 use Rattle.lint_findings.specs.Finding.{Finding}
-use Rattle.lint_findings.specs.Findings.{Rules, findings_if_first, findings_of_entry}
+use Rattle.lint_findings.specs.Findings.{Rules, findings_if_first, findings_of_entry, own_findings}
 use Rattle.lint_findings.specs.UnusedTerms.{unused_findings}
 use Rattle.fluent_grammar.specs.Tree as t
 use Rattle.fluent_grammar.specs.Words.{Text}
@@ -64,16 +63,16 @@ module _ (rules : Rules) (file : File) (before : List Declaration) (s : Text) (e
   -- the findings of an entry of this id, after its duplicates
   abbrev with_duplicates : List Finding → List Finding
   with_duplicates ds =
-      ds ++ (entry_findings rules.ids rules.reference rules.plurals file.source (uncommented e) s ++ (if length ds == 0 then if_first else []))
+      ds ++ (own_findings rules file.source (uncommented e) s ++ (if length ds == 0 then if_first else []))
 
   pub entry_added : (d : Option code.Finding) (is_new : Bool) (x y z w : List Finding) → id_of e ≡ Some id →
       map finding_view (option_to_list d) ≡ duplicate_findings rules.functions before e (offset_in file s) id → is_some d ≡ not is_new →
-      y ≡ x ++ map finding_view (option_to_list d) → z ≡ y ++ entry_findings rules.ids rules.reference rules.plurals file.source (uncommented e) s →
+      y ≡ x ++ map finding_view (option_to_list d) → z ≡ y ++ own_findings rules file.source (uncommented e) s →
       w ≡ z ++ (if is_new then if_first else []) →
       w ≡ x ++ entry_findings_at rules file before s (uncommented e)
   entry_added d is_new x y z w has_id duplicates new p q r =
       let found = map finding_view (option_to_list d) in
-      let own = entry_findings rules.ids rules.reference rules.plurals file.source (uncommented e) s in
+      let own = own_findings rules file.source (uncommented e) s in
       three_added x found own (if is_new then if_first else []) p q r
       ∙ ap (λ l. x ++ (found ++ (own ++ l))) (if_new d is_new if_first new)
       ∙ ap (λ l. x ++ with_duplicates l) (duplicates ∙ same_duplicates rules.functions before e (offset_in file s) id)

@@ -1,7 +1,11 @@
 -- What each call adds.
-use Rattle.std.specs.Prelude.{◌≡◌, ◌-◌, Bool, List, [], ◌∷◌, ◌++◌, if◌then◌else◌, length, map, Vec}
+use Rattle.std.specs.Prelude.{◌≡◌, ◌-◌, Bool, List, [], ◌∷◌, ◌++◌, if◌then◌else◌, length, map, Option, None, Vec}
 use Rattle.std.specs.Global.{Global}
 use Rattle.std.specs.Vec.Iter.{into_iter_items}
+use Rattle.fluent_grammar.specs.Tree as t
+use Rattle.fluent_plurals.specs.declared.plurals.LanguagePlurals.{LanguagePlurals}
+use Rattle.lint_entries.specs.CatalogView.{ids_in, reference_in}
+use Rattle.lint_entries.specs.declared.catalog.Catalog.{Catalog}
 use Rattle.lint_files.specs.PartFindings.{declared_by, declared_by_parts, entry_findings_at, findings_of_parts, offset_in}
 use Rattle.lint_files.specs.RulesView.{rules_view}
 use Rattle.lint_files.specs.declared.cursor.Cursor.{Cursor}
@@ -15,9 +19,8 @@ use Rattle.lint_findings.specs.View.{file_view, finding_view}
 use Rattle.lint_findings.specs.declared.records.File.{File}
 use Rattle.lint_findings.specs.declared.records.Finding.{Finding}
 use Rattle.lint_findings.specs.DuplicateIds.{Declaration}
-use Rattle.lint_findings.specs.EntryFindings.{entry_findings}
 use Rattle.lint_findings.specs.Finding as f
-use Rattle.lint_findings.specs.Findings.{Rules}
+use Rattle.lint_findings.specs.Findings.{Rules, is_copy, own_findings}
 use Rattle.lint_findings.specs.UnusedTerms.{unused_findings}
 use Rattle.fluent_grammar.specs.Words.{Text}
 use Rattle.lint_findings.specs.PlaceView.{IsPlaceIn}
@@ -49,15 +52,24 @@ abbrev pub AddsPlaced : code.Rules → PlacedEntry → Declarations → Vec Find
 AddsPlaced rules placed known old new = (before : List Declaration) → AreFirst known before →
     Adds old new (entry_findings_at (rules_view rules) (file_view placed.file) before placed.text.now (bare_entry placed.entry.now))
 
-abbrev pub own_findings : Rules → PlacedEntry → List f.Finding
-own_findings rules placed =
-    entry_findings rules.ids rules.reference rules.plurals placed.file.source.now (bare_entry placed.entry.now) placed.text.now
+abbrev pub own_of : Rules → PlacedEntry → List f.Finding
+own_of rules placed = own_findings rules placed.file.source.now (bare_entry placed.entry.now) placed.text.now
+
+-- what is known of a catalog, by these plural rules
+pub record IsCatalogBy (rules : Option LanguagePlurals) (catalog made : Catalog) : Type 0 where
+  pub ids : ids_in made ≡ ids_in catalog
+  pub reference : reference_in made ≡ reference_in catalog
+  pub plurals : made.plurals ≡ rules
+
+-- by those for an entry: none for a copy of the reference's
+abbrev pub IsCatalogFor : Catalog → t.Entry → Catalog → Type 0
+IsCatalogFor catalog e made = IsCatalogBy (if is_copy (reference_in catalog) e then None else catalog.plurals) catalog made
 
 abbrev pub compared_findings : Rules → PlacedEntry → List f.Finding
 compared_findings rules placed = rules.compare placed.file.source.now (bare_entry placed.entry.now) placed.text.now
 
 abbrev pub AddsOwn : Rules → PlacedEntry → Vec Finding Global → Vec Finding Global → Type 0
-AddsOwn rules placed old new = Adds old new (own_findings rules placed)
+AddsOwn rules placed old new = Adds old new (own_of rules placed)
 
 -- whether it is a term that nothing refers to
 abbrev pub unused_of : Rules → PlacedEntry → List f.Finding

@@ -1,14 +1,21 @@
 //! The findings of a message or a term.
 #![tactic(auto)]
 
-ghost use Rattle.std.specs.Prelude.{OnOk};
-ghost use Rattle.lint_files.specs.Pushes.{AddsComparison, AddsIfFirst, AddsOwn, AddsPlaced, AddsUnused, DeclaresPlaced, IsPlaced};
+ghost use Rattle.std.specs.Prelude.{◌≡◌, OnOk};
+ghost use Rattle.fluent_ast.specs.Borrowed.{message_of};
+ghost use Rattle.fluent_grammar.specs.Tree as t;
+ghost use Rattle.fluent_ids.specs.IdsView.{ids_view};
+ghost use Rattle.lint_entries.specs.AttributePlaces.{bare_entry};
+ghost use Rattle.lint_files.specs.Pushes.{AddsComparison, AddsIfFirst, AddsOwn, AddsPlaced, AddsUnused, DeclaresPlaced, IsCatalogFor, IsPlaced};
 ghost use Rattle.lint_files.specs.RulesView.{rules_view};
+ghost use Rattle.lint_findings.specs.Findings.{is_copy};
 
 use crate::rules::Rules;
-use fluent_ast::Entry;
-use lint_entries::{Declarations, Location, entry_findings, push_found};
-use lint_findings::{File, Finding, SourcePosition};
+use fluent_ast::{Entry, Message};
+use fluent_ids::GetEntry;
+use lint_comparison::is_same_message;
+use lint_entries::{Catalog, Declarations, Location, entry_findings, push_found};
+use lint_findings::{CatalogIds, File, Finding, SourcePosition};
 use lint_nodes::declared_id;
 use std::alloc::{AllocError, Global};
 
@@ -61,14 +68,66 @@ fn push_own<'s>(
     requires placed { IsPlaced placed.now }
     ensures { OnOk result (AddsOwn (rules_view rules.now) placed.now findings.old findings.new) }
 {
+    let catalog = catalog_for(&rules.catalog, placed.entry);
     let mut found = entry_findings(
         alloc,
-        &rules.catalog,
+        &catalog,
         placed.file.source,
         placed.entry,
         placed.text,
     )?;
     findings.append(&mut found)
+}
+
+/// What is known of the catalog of an entry: no plural rules if it is a copy of the reference's
+/// message, whose plural categories are those of the reference.
+fn catalog_for<'c, 'r, 's>(
+    catalog: &Catalog<'c, 'r, 's>,
+    entry: &Entry<&'s str>,
+) -> Catalog<'c, 'r, 's>
+    ensures { IsCatalogFor catalog.now (bare_entry entry.now) result }
+{
+    match catalog.plurals {
+        Some(_) => catalog_unless_copy(catalog, entry),
+        None => *catalog,
+    }
+}
+
+fn catalog_unless_copy<'c, 'r, 's>(
+    catalog: &Catalog<'c, 'r, 's>,
+    entry: &Entry<&'s str>,
+) -> Catalog<'c, 'r, 's>
+    ensures { IsCatalogFor catalog.now (bare_entry entry.now) result }
+{
+    if is_copy(catalog.reference, entry) {
+        Catalog {
+            endless: catalog.endless,
+            reference: catalog.reference,
+            plurals: None,
+            common: catalog.common,
+        }
+    } else {
+        *catalog
+    }
+}
+
+/// Whether an entry is a message that is the same in the reference.
+fn is_copy<'s>(reference: &CatalogIds<'_, 's>, entry: &Entry<&'s str>) -> bool
+    ensures { result ≡ is_copy (ids_view _ reference.now) (bare_entry entry.now) }
+{
+    match entry {
+        Entry::Message(message) => is_copied(reference, message),
+        _ => false,
+    }
+}
+
+fn is_copied<'s>(reference: &CatalogIds<'_, 's>, message: &Message<&'s str>) -> bool
+    ensures { result ≡ is_copy (ids_view _ reference.now) (t.message (message_of message.now)) }
+{
+    match reference.get_entry_message(message.id.name) {
+        Some(other) => is_same_message(message, other),
+        None => false,
+    }
 }
 
 /// Adds what is found of an entry only if its id is new.

@@ -15,10 +15,16 @@ Lacks : Text → Text → Text → Type 0
 Lacks tag source written =
     report_lines (findings (record { functions = []; plurals = plurals_for tag }) (file (codes "a.ftl") source ∷ [])) ≡ written
 
-polish : Lacks (codes "pl") (codes "a = { $n ->\n    [one] x\n   *[other] y\n }\n")
+polish : Lacks (codes "pl") (codes "a = { $n ->\n    [one] { $n } x\n   *[other] { $n } y\n }\n")
     (codes "a.ftl:1:7: warning: a: there is no variant for the plural category `few` [missing-category]\na.ftl:1:7: warning: a: there is no variant for the plural category `many` [missing-category]\n")
 unfolding computing_findings file operands_of last_digits is_common Lacks
 polish = refl
+
+-- no variant shows the number
+polish_words : Lacks (codes "pl") (codes "a = { $n ->\n    [one] x\n   *[other] y\n }\n")
+    (codes "a.ftl:1:7: note: a: there is no variant for the plural category `few` [missing-category]\na.ftl:1:7: note: a: there is no variant for the plural category `many` [missing-category]\n")
+unfolding computing_findings file operands_of last_digits is_common Lacks
+polish_words = refl
 
 -- the rules for ordinals, of which English has four
 english_ordinals : Lacks (codes "en-GB") (codes "a = { NUMBER($n, type: \"ordinal\") ->\n    [one] x\n    [few] z\n   *[other] y\n }\n")

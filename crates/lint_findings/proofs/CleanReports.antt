@@ -15,6 +15,7 @@ use Rattle.fluent_meaning.specs.Fallback.{with_attribute}
 use Rattle.fluent_meaning.specs.Ids.{Ids, Meaning, number_function, function, message, term, find, number_pair, entries_by_id, attribute_named}
 use Rattle.fluent_meaning.specs.Substitution.{message_target, term_target, there_or}
 use Rattle.fluent_meaning.proofs.Stays.{first_stays}
+use Rattle.fluent_plurals.specs.declared.plurals.LanguagePlurals.{LanguagePlurals}
 use Rattle.lint_findings.specs.Tiles.{Tile, entry_tile, junk_tile, tiles}
 use Rattle.lint_findings.specs.References.{elements_references, reference_error, target_error, function_error, pattern_errors}
 use Rattle.lint_findings.specs.Endless.{meaning_patterns, is_pattern_among, endless_patterns}
@@ -28,7 +29,7 @@ use Rattle.lint_findings.proofs.NodeRemarks.{flaw_finding, node_findings_are}
 use Rattle.lint_findings.specs.EntryFindings.{endless_remark, finding_in, node_flaws, node_findings, nodes_findings, pattern_findings, attribute_findings, patterns_findings, first_place, pattern_places, entry_findings}
 use Rattle.lint_findings.specs.Files.{File}
 use Rattle.lint_findings.specs.DuplicateIds.{Declaration, duplicate_findings}
-use Rattle.lint_findings.specs.Findings.{Rules, FileFinding, FileTile, findings_in, tiles_in, sources, findings_of_tile, findings_of_tiles, declarations_of_tile, catalog_rules, translation_rules, known_functions, missing_messages}
+use Rattle.lint_findings.specs.Findings.{Rules, FileFinding, FileTile, findings_in, tiles_in, sources, findings_of_tile, findings_of_tiles, declarations_of_tile, catalog_rules, translation_rules, known_functions, missing_messages, own_findings, plurals_for}
 use Rattle.lint_findings.specs.PlaceLaws.{tile_entries}
 use Rattle.lint_findings.specs.ReportLaws.{program_ids, AreFunctions, IsHarmless, IsFlawless, harmful_codes, HasHarmlessCode, IsClean, CleanCatalogsAreFlawless, CleanTranslationsAreFlawless}
 use Rattle.lint_findings.proofs.EndlessPatterns.{endless_goes_on}
@@ -135,7 +136,7 @@ module _ (rules : Rules) where
   abbrev HasHarmless : t.Entry → Type 0
   HasHarmless e = All (λ p. Harmless p.1) (entry_patterns e)
 
-  module _ (source : Text) where
+  module _ (source : Text) (plurals : Option LanguagePlurals) where
     reference_resolved : (owner at : Text) (o : Option Unresolved) → HasHarmfulCode o →
         Clean (map (flaw_finding rules.ids rules.reference source owner at) (map unresolved (option_to_list o))) → o ≡ None
     reference_resolved owner at None code h = refl
@@ -152,20 +153,20 @@ module _ (rules : Rules) where
     node_is_resolved owner at (select i vs) h = default_is_there owner at (first_default vs) h
     node_is_resolved owner at (repeated_key k) h = tt
 
-    node_by_findings : (owner at : Text) (node : Node) → Clean (node_findings rules.ids rules.reference rules.plurals source owner at node) → IsResolved (find rules.ids) node
+    node_by_findings : (owner at : Text) (node : Node) → Clean (node_findings rules.ids rules.reference plurals source owner at node) → IsResolved (find rules.ids) node
     node_by_findings owner at node h =
         node_is_resolved owner at node (all_left HasHarmlessCode (map (flaw_finding rules.ids rules.reference source owner at) (node_flaws rules.ids node)) _
-        (subst Clean (node_findings_are rules.ids rules.reference rules.plurals source owner at node) h))
+        (subst Clean (node_findings_are rules.ids rules.reference plurals source owner at node) h))
 
-    nodes_are_resolved : (owner at : Text) (nodes : List Node) (os : List Occurrence) → Clean (nodes_findings rules.ids rules.reference rules.plurals source owner at nodes os) →
+    nodes_are_resolved : (owner at : Text) (nodes : List Node) (os : List Occurrence) → Clean (nodes_findings rules.ids rules.reference plurals source owner at nodes os) →
         All (IsResolved (find rules.ids)) nodes
     nodes_are_resolved owner at [] os h = All-nil (IsResolved (find rules.ids))
     nodes_are_resolved owner at (node ∷ nodes) [] h =
-        All-cons (IsResolved (find rules.ids)) node nodes (node_by_findings owner at node (all_left HasHarmlessCode (node_findings rules.ids rules.reference rules.plurals source owner at node) _ h))
-        (nodes_are_resolved owner at nodes [] (all_right HasHarmlessCode (node_findings rules.ids rules.reference rules.plurals source owner at node) _ h))
+        All-cons (IsResolved (find rules.ids)) node nodes (node_by_findings owner at node (all_left HasHarmlessCode (node_findings rules.ids rules.reference plurals source owner at node) _ h))
+        (nodes_are_resolved owner at nodes [] (all_right HasHarmlessCode (node_findings rules.ids rules.reference plurals source owner at node) _ h))
     nodes_are_resolved owner at (node ∷ nodes) (o ∷ os) h =
-        All-cons (IsResolved (find rules.ids)) node nodes (node_by_findings owner o.at node (all_left HasHarmlessCode (node_findings rules.ids rules.reference rules.plurals source owner o.at node) _ h))
-        (nodes_are_resolved owner at nodes os (all_right HasHarmlessCode (node_findings rules.ids rules.reference rules.plurals source owner o.at node) _ h))
+        All-cons (IsResolved (find rules.ids)) node nodes (node_by_findings owner o.at node (all_left HasHarmlessCode (node_findings rules.ids rules.reference plurals source owner o.at node) _ h))
+        (nodes_are_resolved owner at nodes os (all_right HasHarmlessCode (node_findings rules.ids rules.reference plurals source owner o.at node) _ h))
 
     ends : (es : Elements) (owner at : Text) (goes_on is_endless : Bool) → (is_endless ≡ true → goes_on ≡ true) →
         Clean (if goes_on then finding_in source owner at (endless_remark rules.ids rules.reference es) ∷ [] else []) → All IsHarmless (if is_endless then unresolved cyclic ∷ [] else [])
@@ -174,28 +175,28 @@ module _ (rules : Rules) where
     ends es owner at false true goes h = let bad : false ≡ true = goes refl in absurd cc
     ends es owner at false false goes h = All-nil IsHarmless
 
-    pattern_is_harmless : (owner : Text) (place : PatternPlace) (es : Elements) → Clean (pattern_findings rules.ids rules.reference rules.plurals source owner place es) → Harmless es
+    pattern_is_harmless : (owner : Text) (place : PatternPlace) (es : Elements) → Clean (pattern_findings rules.ids rules.reference plurals source owner place es) → Harmless es
     pattern_is_harmless owner place es h =
         let b = never_ends rules.ids es in
         let endless = is_pattern_among es (endless_patterns rules.ids) in
         let first = all_left HasHarmlessCode (if b then finding_in source owner place.name_at (endless_remark rules.ids rules.reference es) ∷ [] else []) _ h in
         let later = all_right HasHarmlessCode (if b then finding_in source owner place.name_at (endless_remark rules.ids rules.reference es) ∷ [] else []) _ h in
-        let others = all_left HasHarmlessCode (nodes_findings rules.ids rules.reference rules.plurals source owner place.pattern_at (elements_nodes es) (occurrences place.pattern_at)) _ later in
+        let others = all_left HasHarmlessCode (nodes_findings rules.ids rules.reference plurals source owner place.pattern_at (elements_nodes es) (occurrences place.pattern_at)) _ later in
         let resolved = elements_resolved (find rules.ids) es (nodes_are_resolved owner place.pattern_at (elements_nodes es) (occurrences place.pattern_at) others) in
         All-append IsHarmless (map unresolved (pattern_errors (find rules.ids) es)) _ (errors_are_harmless (find rules.ids) (elements_references es) resolved.0)
         (All-append IsHarmless (flat_map select_flaws (elements_selects es)) _ (selects_are_harmless (elements_selects es) resolved.1) (ends es owner place.name_at b endless (endless_goes_on rules.ids es) first))
 
-    patterns_are_harmless : (s : Text) (before : List Text) (places : List PatternPlace) (ps : List (Owner × Elements)) → Clean (patterns_findings rules.ids rules.reference rules.plurals source s before places ps) →
+    patterns_are_harmless : (s : Text) (before : List Text) (places : List PatternPlace) (ps : List (Owner × Elements)) → Clean (patterns_findings rules.ids rules.reference plurals source s before places ps) →
         All (λ p. Harmless p.1) ps
     patterns_are_harmless s before places [] h = All-nil (λ p. Harmless p.1)
     patterns_are_harmless s before places (p ∷ ps) h =
         let owner = with_attribute p.0.label p.0.attribute in
         let place = first_place s places in
-        let rest = all_right HasHarmlessCode (attribute_findings rules.ids rules.reference rules.plurals source owner before place p.0.attribute) _ h in
-        All-cons (λ q. Harmless q.1) p ps (pattern_is_harmless owner place p.1 (all_left HasHarmlessCode (pattern_findings rules.ids rules.reference rules.plurals source owner place p.1) _ rest))
-        (patterns_are_harmless s (option_to_list p.0.attribute ++ before) (drop 1 places) ps (all_right HasHarmlessCode (pattern_findings rules.ids rules.reference rules.plurals source owner place p.1) _ rest))
+        let rest = all_right HasHarmlessCode (attribute_findings rules.ids rules.reference plurals source owner before place p.0.attribute) _ h in
+        All-cons (λ q. Harmless q.1) p ps (pattern_is_harmless owner place p.1 (all_left HasHarmlessCode (pattern_findings rules.ids rules.reference plurals source owner place p.1) _ rest))
+        (patterns_are_harmless s (option_to_list p.0.attribute ++ before) (drop 1 places) ps (all_right HasHarmlessCode (pattern_findings rules.ids rules.reference plurals source owner place p.1) _ rest))
 
-    entry_is_harmless : (e : t.Entry) (s : Text) → Clean (entry_findings rules.ids rules.reference rules.plurals source e s) → HasHarmless e
+    entry_is_harmless : (e : t.Entry) (s : Text) → Clean (entry_findings rules.ids rules.reference plurals source e s) → HasHarmless e
     entry_is_harmless e s h = patterns_are_harmless s [] (pattern_places e s) (entry_patterns e) h
 
     middle : (xs ys zs : List Finding) → Clean (xs ++ (ys ++ zs)) → Clean ys
@@ -210,9 +211,9 @@ module _ (rules : Rules) where
   tile_is_harmless : (before : List Declaration) (file : File) (tile : Tile) → Clean (findings_of_tile rules before file tile) → TileIsHarmless tile
   tile_is_harmless before file (junk_tile at s refusal) h = tt
   tile_is_harmless before file (entry_tile at s (t.message m)) h =
-      entry_is_harmless file.source (t.message m) s (middle file.source (duplicate_findings rules.functions before (t.message m) at m.id) (entry_findings rules.ids rules.reference rules.plurals file.source (t.message m) s) _ h)
+      entry_is_harmless file.source (plurals_for rules (t.message m)) (t.message m) s (middle file.source (plurals_for rules (t.message m)) (duplicate_findings rules.functions before (t.message m) at m.id) (own_findings rules file.source (t.message m) s) _ h)
   tile_is_harmless before file (entry_tile at s (t.term m)) h =
-      entry_is_harmless file.source (t.term m) s (middle file.source (duplicate_findings rules.functions before (t.term m) at m.id) (entry_findings rules.ids rules.reference rules.plurals file.source (t.term m) s) _ h)
+      entry_is_harmless file.source (plurals_for rules (t.term m)) (t.term m) s (middle file.source (plurals_for rules (t.term m)) (duplicate_findings rules.functions before (t.term m) at m.id) (own_findings rules file.source (t.term m) s) _ h)
   tile_is_harmless before file (entry_tile at s (t.comment c)) h = All-nil (λ p. Harmless p.1)
   tile_is_harmless before file (entry_tile at s (t.group_comment c)) h = All-nil (λ p. Harmless p.1)
   tile_is_harmless before file (entry_tile at s (t.resource_comment c)) h = All-nil (λ p. Harmless p.1)

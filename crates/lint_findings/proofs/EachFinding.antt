@@ -18,6 +18,7 @@ use Rattle.fluent_errors.specs.Errors.{Unresolved, unknown, no_value, missing_de
 use Rattle.fluent_meaning.specs.Choice.{first_default}
 use Rattle.fluent_meaning.specs.Fallback.{with_attribute}
 use Rattle.fluent_meaning.specs.Ids.{Ids, find}
+use Rattle.fluent_plurals.specs.declared.plurals.LanguagePlurals.{LanguagePlurals}
 use Rattle.lint_findings.specs.Tiles.{entry_tile}
 use Rattle.lint_findings.specs.References.{reference_error}
 use Rattle.lint_findings.specs.Flaws.{unresolved, duplicate_key, default_flaws, elements_selects, entry_patterns, Owner}
@@ -36,7 +37,7 @@ use Rattle.lint_findings.specs.EntryFindings.{endless_remark, finding_in, node_f
 use Rattle.lint_findings.specs.Files.{File}
 use Rattle.lint_findings.specs.DuplicateIds.{Declaration, id_of, label_of, duplicate_findings}
 use Rattle.lint_findings.specs.UnusedTerms.{unused_remark, unused_findings}
-use Rattle.lint_findings.specs.Findings.{Rules, FileFinding, findings_if_first, findings_of_entry, findings_of_tile}
+use Rattle.lint_findings.specs.Findings.{Rules, FileFinding, findings_if_first, findings_of_entry, findings_of_tile, own_findings, plurals_for}
 use Rattle.lint_findings.specs.PlaceLaws.{IsReadAt, IsReadIn, nodes, ArePatternsAt}
 use Rattle.lint_findings.specs.FindingLaws.{syntax_codes, reference_codes, IsOfReference, source_selects, IsOfLostVariant, is_repeated, IsOfLoneTerm, is_unused}
 use Rattle.lint_findings.proofs.OccurrencesAreRead.{occurrences_are_read}
@@ -138,7 +139,7 @@ module _ (S : Type 0) (rules : Rules) (file : File) where
   mapped make h [] = none
   mapped make h (x ∷ xs) = All-cons IsSound (make x) (map make xs) (h x) (mapped make h xs)
 
-  module _ (owner : Text) where
+  module _ (plurals : Option LanguagePlurals) (owner : Text) where
     -- at an end of the source
     module _ (at : Text) (h : EndsIn at source) where
       of_reference : (i : t.Inline) (rest : Text) → inline_read at ≡ got i rest → (o : Option Unresolved) → reference_error (find rules.ids) i ≡ o →
@@ -191,49 +192,49 @@ module _ (S : Type 0) (rules : Rules) (file : File) where
           All-cons IsSound (finding_in source owner at r) (map (finding_in source owner at) rs)
           (plain (finding_in source owner at r) here.no_syntax here.no_reference here.no_variant) (of_doubts rs (All-tail IsPlain r rs h))
 
-      of_node : (node : Node) → IsReadAt at node → IsOfSelects (source_selects source) node → AreSound (node_findings rules.ids rules.reference rules.plurals source owner at node)
+      of_node : (node : Node) → IsReadAt at node → IsOfSelects (source_selects source) node → AreSound (node_findings rules.ids rules.reference plurals source owner at node)
       of_node node read known =
-          subst AreSound (sym (node_findings_are rules.ids rules.reference rules.plurals source owner at node))
+          subst AreSound (sym (node_findings_are rules.ids rules.reference plurals source owner at node))
           (both (map (flaw_finding rules.ids rules.reference source owner at) (node_flaws rules.ids node)) _ (of_flaws node read known)
-          (of_doubts (node_doubts rules.ids rules.plurals node) (doubts_are_plain rules.ids rules.plurals node)))
+          (of_doubts (node_doubts rules.ids plurals node) (doubts_are_plain rules.ids plurals node)))
 
     of_nodes : (s : Text) → EndsIn s source → (at : Text) (os : List Occurrence) → All (IsReadIn s) os → All (IsOfSelects (source_selects source)) (nodes os) →
-        AreSound (nodes_findings rules.ids rules.reference rules.plurals source owner at (nodes os) os)
+        AreSound (nodes_findings rules.ids rules.reference plurals source owner at (nodes os) os)
     of_nodes s h at [] read known = none
     of_nodes s h at (o ∷ os) read known =
         let here = All-head (IsReadIn s) o os read in
-        both (node_findings rules.ids rules.reference rules.plurals source owner o.at o.node) _
+        both (node_findings rules.ids rules.reference plurals source owner o.at o.node) _
         (of_node o.at (end-trans here.place h) o.node here.read (All-head (IsOfSelects (source_selects source)) o.node (nodes os) known))
         (of_nodes s h at os (All-tail (IsReadIn s) o os read) (All-tail (IsOfSelects (source_selects source)) o.node (nodes os) known))
 
-  of_pattern : (owner : Text) (place : PatternPlace) (es : Elements) (rest : Text) → EndsIn place.pattern_at source → pattern_read place.pattern_at ≡ got es rest → AreAmong (elements_selects es) (source_selects source) →
-      AreSound (pattern_findings rules.ids rules.reference rules.plurals source owner place es)
-  of_pattern owner place es rest h read among =
+  of_pattern : (plurals : Option LanguagePlurals) (owner : Text) (place : PatternPlace) (es : Elements) (rest : Text) → EndsIn place.pattern_at source → pattern_read place.pattern_at ≡ got es rest → AreAmong (elements_selects es) (source_selects source) →
+      AreSound (pattern_findings rules.ids rules.reference plurals source owner place es)
+  of_pattern plurals owner place es rest h read among =
       let os = occurrences place.pattern_at in
       let same : nodes os ≡ elements_nodes es = occurrences_are_the_nodes place.pattern_at es rest read in
       let known = more (elements_selects es) (source_selects source) (elements_nodes es) among (elements_known es) in
       both (if never_ends rules.ids es then finding_in source owner place.name_at (endless_remark rules.ids rules.reference es) ∷ [] else []) _
       (if_one (never_ends rules.ids es) (finding_in source owner place.name_at (endless_remark rules.ids rules.reference es)) (plain _ refl refl refl))
-      (both (nodes_findings rules.ids rules.reference rules.plurals source owner place.pattern_at (elements_nodes es) os) _
-      (subst (λ ns. AreSound (nodes_findings rules.ids rules.reference rules.plurals source owner place.pattern_at ns os)) same
-      (of_nodes owner place.pattern_at h place.pattern_at os (occurrences_are_read place.pattern_at) (subst (All (IsOfSelects (source_selects source))) (sym same) known)))
-      (of_doubts owner place.pattern_at h
+      (both (nodes_findings rules.ids rules.reference plurals source owner place.pattern_at (elements_nodes es) os) _
+      (subst (λ ns. AreSound (nodes_findings rules.ids rules.reference plurals source owner place.pattern_at ns os)) same
+      (of_nodes plurals owner place.pattern_at h place.pattern_at os (occurrences_are_read place.pattern_at) (subst (All (IsOfSelects (source_selects source))) (sym same) known)))
+      (of_doubts plurals owner place.pattern_at h
       (letters (pattern_text place.pattern_at) ++ (mixed_words (pattern_text place.pattern_at) ++ wrong_encodings (pattern_text place.pattern_at)))
       (all_are_plain (pattern_text place.pattern_at))))
 
   abbrev HasSelects : Owner × Elements → Type 0
   HasSelects p = AreAmong (elements_selects p.1) (source_selects source)
 
-  of_patterns : (s : Text) (before : List Text) (places : List PatternPlace) (ps : List (Owner × Elements)) → All (IsPlace source) places → ArePatternsAt places ps → All HasSelects ps →
-      AreSound (patterns_findings rules.ids rules.reference rules.plurals source s before places ps)
-  of_patterns s before places [] h at among = none
-  of_patterns s before [] (p ∷ ps) h at among = absurd at
-  of_patterns s before (place ∷ places) (p ∷ ps) h at among =
+  of_patterns : (plurals : Option LanguagePlurals) (s : Text) (before : List Text) (places : List PatternPlace) (ps : List (Owner × Elements)) → All (IsPlace source) places → ArePatternsAt places ps → All HasSelects ps →
+      AreSound (patterns_findings rules.ids rules.reference plurals source s before places ps)
+  of_patterns plurals s before places [] h at among = none
+  of_patterns plurals s before [] (p ∷ ps) h at among = absurd at
+  of_patterns plurals s before (place ∷ places) (p ∷ ps) h at among =
       let owner = with_attribute p.0.label p.0.attribute in
-      both (attribute_findings rules.ids rules.reference rules.plurals source owner before place p.0.attribute) _ (if_one (list_any (λ name. is_among name before) (option_to_list p.0.attribute)) _ (plain _ refl refl refl))
-      (both (pattern_findings rules.ids rules.reference rules.plurals source owner place p.1) _
-      (of_pattern owner place p.1 at.1.0 (All-head (IsPlace source) place places h) at.1.1 (All-head HasSelects p ps among))
-      (of_patterns s (option_to_list p.0.attribute ++ before) places ps (All-tail (IsPlace source) place places h) at.2 (All-tail HasSelects p ps among)))
+      both (attribute_findings rules.ids rules.reference plurals source owner before place p.0.attribute) _ (if_one (list_any (λ name. is_among name before) (option_to_list p.0.attribute)) _ (plain _ refl refl refl))
+      (both (pattern_findings rules.ids rules.reference plurals source owner place p.1) _
+      (of_pattern plurals owner place p.1 at.1.0 (All-head (IsPlace source) place places h) at.1.1 (All-head HasSelects p ps among))
+      (of_patterns plurals s (option_to_list p.0.attribute ++ before) places ps (All-tail (IsPlace source) place places h) at.2 (All-tail HasSelects p ps among)))
 
   all_selects : (ps : List (Owner × Elements)) → AreAmong (flat_map (λ (p : Owner × Elements). elements_selects p.1) ps) (source_selects source) → All HasSelects ps
   all_selects [] h = All-nil HasSelects
@@ -241,9 +242,9 @@ module _ (S : Type 0) (rules : Rules) (file : File) where
       let others = flat_map (λ (q : Owner × Elements). elements_selects q.1) ps in
       All-cons HasSelects p ps (λ vs c. h vs (Contains-append_left (elements_selects p.1) others vs c)) (all_selects ps (λ vs c. h vs (Contains-append_right (elements_selects p.1) others vs c)))
 
-  of_entry : (e : t.Entry) (s : Text) → IsReadTile source (entry_tile 0 s e) → AreAmong (entry_selects e) (source_selects source) → AreSound (entry_findings rules.ids rules.reference rules.plurals source e s)
-  of_entry e s read among =
-      of_patterns s [] (pattern_places e s) (entry_patterns e) (places_within source s read.0 e) (patterns_have_places s e read.1.0 read.1.1) (all_selects (entry_patterns e) among)
+  of_entry : (plurals : Option LanguagePlurals) (e : t.Entry) (s : Text) → IsReadTile source (entry_tile 0 s e) → AreAmong (entry_selects e) (source_selects source) → AreSound (entry_findings rules.ids rules.reference plurals source e s)
+  of_entry plurals e s read among =
+      of_patterns plurals s [] (pattern_places e s) (entry_patterns e) (places_within source s read.0 e) (patterns_have_places s e read.1.0 read.1.1) (all_selects (entry_patterns e) among)
 
   -- ---- findings of a tile
 
@@ -276,13 +277,13 @@ module _ (S : Type 0) (rules : Rules) (file : File) where
     unless_taken true e at s read = both (unused_findings rules.is_referred e at) _ (of_unused e at s read) (compares e s)
     unless_taken false e at s read = none
 
-    of_known : (before : List Declaration) (e : t.Entry) (at : ℕ) (s : Text) (o : Option Text) → IsReadTile source (entry_tile at s e) → AreSound (entry_findings rules.ids rules.reference rules.plurals source e s) →
+    of_known : (before : List Declaration) (e : t.Entry) (at : ℕ) (s : Text) (o : Option Text) → IsReadTile source (entry_tile at s e) → AreSound (own_findings rules source e s) →
         AreSound (findings_of_entry rules before source e at s o)
     of_known before e at s None read h = none
     of_known before e at s (Some id) read h =
         let duplicates = duplicate_findings rules.functions before e at id in
-        both duplicates _ (of_id before e at id) (both (entry_findings rules.ids rules.reference rules.plurals source e s) _ h (unless_taken (length duplicates == 0) e at s read))
+        both duplicates _ (of_id before e at id) (both (own_findings rules source e s) _ h (unless_taken (length duplicates == 0) e at s read))
 
     pub of_entry_tile : (before : List Declaration) (at : ℕ) (s : Text) (e : t.Entry) → IsReadTile source (entry_tile at s e) → IsTileAmong (source_selects source) (entry_tile at s e) →
         AreSound (findings_of_tile rules before file (entry_tile at s e))
-    of_entry_tile before at s e read among = of_known before e at s (id_of e) read (of_entry e s read among)
+    of_entry_tile before at s e read among = of_known before e at s (id_of e) read (of_entry (plurals_for rules e) e s read among)

@@ -16,7 +16,7 @@ use Rattle.lint_findings.specs.Misuses.{misuse_remark}
 use Rattle.fluent_number.specs.declared.plural.PluralCategory.{PluralCategory}
 use Rattle.fluent_number.specs.declared.plural.PluralCategory.TheVariants.{ZERO, ONE, TWO, FEW, MANY, OTHER}
 use Rattle.lint_findings.specs.Facts.{Fact, quoted_placeable, unused_argument, unknown_value, lacking_category, nearly_category, other_text, node_facts, lacking_remark, fact_remark}
-use Rattle.lint_findings.specs.EntryFindings.{flaw_remark, category_remark, escape_remark, node_flaws, node_categories, node_escapes, node_misuses, node_doubts, node_findings, finding_in}
+use Rattle.lint_findings.specs.EntryFindings.{flaw_remark, category_remark, escape_remark, node_flaws, node_categories, node_escapes, node_misuses, node_doubts, node_findings, shows_number, finding_in}
 
 -- of a flaw of a node
 abbrev pub flaw_finding : {F : Type 0} → Ids F → Ids F → Text → Text → Text → Flaw → Finding
@@ -68,8 +68,9 @@ fact_is_plain (other_text id name s key) = record { no_syntax = refl; no_referen
 
 pub doubts_are_plain : {F : Type 0} (ids : Ids F) (plurals : Option LanguagePlurals) (node : Node) → All IsPlain (node_doubts ids plurals node)
 doubts_are_plain ids plurals node =
-    All-append IsPlain (map category_remark (node_categories plurals node)) _
-    (all_plain category_remark (λ c. record { no_syntax = refl; no_reference = refl; no_variant = refl }) (node_categories plurals node))
+    let says = category_remark (shows_number node) in
+    All-append IsPlain (map says (node_categories plurals node)) _
+    (all_plain says (λ c. record { no_syntax = refl; no_reference = refl; no_variant = refl }) (node_categories plurals node))
     (All-append IsPlain (map escape_remark (node_escapes node)) _
     (all_plain escape_remark (λ x. record { no_syntax = refl; no_reference = refl; no_variant = refl }) (node_escapes node))
     (All-append IsPlain (map misuse_remark (node_misuses node)) _

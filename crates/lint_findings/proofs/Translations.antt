@@ -23,8 +23,7 @@ use Rattle.lint_findings.specs.Finding.{Finding}
 use Rattle.lint_findings.specs.Files.{File}
 use Rattle.lint_findings.specs.DuplicateIds.{Declaration, first_declaration, duplicate_findings}
 use Rattle.lint_findings.specs.ComparisonFindings.{difference_words, difference_finding, difference_findings, loss_findings, message_findings, missing_findings, text_findings}
-use Rattle.lint_findings.specs.EntryFindings.{entry_findings}
-use Rattle.lint_findings.specs.Findings.{Options, Rules, FileFinding, FileTile, findings_in, tiles_in, sources, findings_of_tile, findings_of_tiles, declarations_of_tile, known_functions, known_ids, translation_rules, missing_messages, findings_with_reference}
+use Rattle.lint_findings.specs.Findings.{Options, Rules, FileFinding, FileTile, findings_in, tiles_in, sources, findings_of_tile, findings_of_tiles, declarations_of_tile, known_functions, known_ids, translation_rules, missing_messages, findings_with_reference, own_findings}
 use Rattle.lint_findings.specs.PlaceLaws.{tile_entries}
 use Rattle.lint_findings.specs.ReportLaws.{program_ids, AreFunctions, HasTarget, missing_codes, LacksNothing, TranslationsAnswerAll}
 use Rattle.lint_findings.proofs.Lists.{all_left, all_right}
@@ -226,7 +225,7 @@ module _ (options : Options) (references files : List File) (id : Text) (v : t.M
       All Present (findings_of_tile rules before file (entry_tile at s (t.message m))) → Reported
   here_reported file before at s m same h k clean =
       let none : duplicate_findings rules.functions before (t.message m) at m.id ≡ [] = subst (λ x. duplicate_findings rules.functions before (t.message m) at x ≡ []) same (no_duplicates before (t.message m) at h k) in
-      let both : All Present (message_findings ids reference options.plurals file.source (t.message m) s) = compared (duplicate_findings rules.functions before (t.message m) at m.id) (entry_findings ids reference options.plurals file.source (t.message m) s) _ none clean in
+      let both : All Present (message_findings ids reference options.plurals file.source (t.message m) s) = compared (duplicate_findings rules.functions before (t.message m) at m.id) (own_findings rules file.source (t.message m) s) _ none clean in
       let own = all_left Present (difference_findings ids reference file.source m s) (loss_findings reference options.plurals file.source m s ++ text_findings reference file.source m s) both in
       rw same (fine file.source m.id s (variables_of reference m.id) (differences ids reference m.id) own)
 

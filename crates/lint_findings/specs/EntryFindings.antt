@@ -1,12 +1,13 @@
 -- The findings of an entry by itself, in a catalog.
-use Rattle.std.specs.Prelude.{ℕ, ◌-◌, if◌then◌else◌, List, [], ◌∷◌, ◌++◌, length, map, drop, take, Option, Some, None, is_some, codes}
-use Rattle.std.specs.Option.{option_to_list}
+use Rattle.std.specs.Prelude.{ℕ, ◌-◌, Bool, false, true, if◌then◌else◌, List, [], ◌∷◌, ◌++◌, length, map, drop, take, Option, Some, None, is_some, codes}
+use Rattle.std.specs.Option.{option_map_or, option_to_list}
 use Rattle.std.specs.List.{list_any}
 use Rattle.fluent_grammar.specs.Words.{Text, is_among}
 use Rattle.fluent_grammar.specs.Refusal.{Reading, got, refused}
 use Rattle.fluent_grammar.specs.Tree as t
 use Rattle.fluent_grammar.specs.Tree.{Elements}
 use Rattle.fluent_number.specs.declared.plural.PluralCategory.{PluralCategory}
+use Rattle.fluent_number.specs.declared.plural.PluralCategory.TheVariants.{FEW, MANY}
 use Rattle.fluent_value.specs.Matching.{category_text}
 use Rattle.fluent_errors.specs.Errors.{cyclic}
 use Rattle.fluent_meaning.specs.Ids.{Ids, find}
@@ -25,7 +26,9 @@ use Rattle.lint_findings.specs.Facts.{node_facts, fact_remark}
 use Rattle.lint_findings.specs.Encodings.{wrong_encodings}
 use Rattle.lint_findings.specs.Letters.{letters}
 use Rattle.lint_findings.specs.Scripts.{mixed_words}
-use Rattle.lint_findings.specs.Finding.{warning, Finding, Remark, remark, finding_at}
+use Rattle.lint_findings.specs.Finding.{warning, note, Finding, Remark, Severity, remark, finding_at}
+use Rattle.lint_findings.specs.Losses.{counted}
+use Rattle.lint_findings.specs.Shown.{variants_show}
 use Rattle.lint_findings.specs.FlawHints.{never_ends, endless_hint, flaw_hint}
 use Rattle.lint_findings.specs.FlawWords.{flaw_words}
 
@@ -70,10 +73,22 @@ node_misuses _ = []
 
 -- ---- what is said of a node, a pattern and an attribute
 
--- of a select without a variant for a category
-abbrev pub category_remark : PluralCategory → Remark
-category_remark category =
-    remark warning (codes "missing-category") (codes "there is no variant for the plural category " ++ in_backticks (category_text category))
+-- Whether a variant of a select shows the number by which it chooses, if that is a variable. Where none does, a text for
+-- several things mostly fits `few` and `many`, too.
+abbrev pub shows_number : Node → Bool
+shows_number (select i vs) = option_map_or (λ x. variants_show x vs) (counted i) true
+shows_number _ = true
+
+abbrev pub category_severity : Bool → PluralCategory → Severity
+category_severity false FEW = note
+category_severity false MANY = note
+category_severity is_shown c = warning
+
+-- of a select without a variant for a category, which may show its number
+abbrev pub category_remark : Bool → PluralCategory → Remark
+category_remark is_shown category =
+    remark (category_severity is_shown category) (codes "missing-category")
+    (codes "there is no variant for the plural category " ++ in_backticks (category_text category))
 
 -- of an escape that stands for no character
 abbrev pub escape_remark : Text → Remark
@@ -88,7 +103,7 @@ taken_remark =
 -- what is said of a node beside its flaws
 abbrev pub node_doubts : {F : Type 0} → Ids F → Option LanguagePlurals → Node → List Remark
 node_doubts ids plurals node =
-    map category_remark (node_categories plurals node)
+    map (category_remark (shows_number node)) (node_categories plurals node)
     ++ (map escape_remark (node_escapes node)
     ++ (map misuse_remark (node_misuses node) ++ map fact_remark (node_facts ids plurals node)))
 

@@ -1,11 +1,12 @@
 -- The findings of a catalog, and of a catalog with a reference.
-use Rattle.std.specs.Prelude.{ℕ, ◌==◌, Bool, if◌then◌else◌, List, [], ◌∷◌, ◌++◌, length, map, Option, Some, None}
+use Rattle.std.specs.Prelude.{ℕ, ◌==◌, Bool, false, if◌then◌else◌, List, [], ◌∷◌, ◌++◌, length, map, Option, Some, None}
 use Rattle.std.specs.List.{flat_map}
+use Rattle.std.specs.Option.{option_map_or}
 use Rattle.fluent_grammar.specs.Words.{Text}
 use Rattle.fluent_grammar.specs.Tree as t
 use Rattle.fluent_grammar.specs.Tree.{Inline}
 use Rattle.fluent_tidy_laws.specs.Joined.{lists}
-use Rattle.fluent_meaning.specs.Ids.{Ids}
+use Rattle.fluent_meaning.specs.Ids.{Ids, find}
 use Rattle.fluent_plurals.specs.declared.plurals.LanguagePlurals.{LanguagePlurals}
 use Rattle.lint_findings.specs.Tiles.{Tile, entry_tile, junk_tile, tiles}
 use Rattle.lint_findings.specs.References.{elements_references}
@@ -13,6 +14,7 @@ use Rattle.lint_findings.specs.Flaws.{catalog_ids, entry_patterns}
 use Rattle.lint_findings.specs.Finding.{Finding}
 use Rattle.lint_findings.specs.SyntaxFindings.{syntax_finding}
 use Rattle.lint_findings.specs.EntryFindings.{entry_findings}
+use Rattle.lint_findings.specs.Comparison.{as_message, same_message}
 use Rattle.lint_findings.specs.Files.{File}
 use Rattle.lint_findings.specs.DuplicateIds.{Declaration, id_of, declarations, duplicate_findings}
 use Rattle.lint_findings.specs.ComparisonFindings.{message_findings, missing_findings}
@@ -54,7 +56,20 @@ pub record Rules : Type 0 where
   pub is_referred : Text → Bool
   pub compare : Text → t.Entry → Text → List Finding
 
+-- a message that is the same in the reference: it isn't translated yet
+abbrev pub is_copy : Ids (Unit {0}) → t.Entry → Bool
+is_copy reference (t.message m) = option_map_or (same_message m) (as_message (find reference m.id)) false
+is_copy reference _ = false
+
 module _ (rules : Rules) where
+  -- The plural rules that an entry is looked at by: none for a copy, whose plural categories are those of the reference.
+  abbrev pub plurals_for : t.Entry → Option LanguagePlurals
+  plurals_for e = if is_copy rules.reference e then None else rules.plurals
+
+  -- of the patterns of an entry
+  abbrev pub own_findings : Text → t.Entry → Text → List Finding
+  own_findings source e s = entry_findings rules.ids rules.reference (plurals_for e) source e s
+
   -- of an entry that counts: whether it is a term that nothing refers to, and how it differs from the reference
   abbrev pub findings_if_first : Text → t.Entry → ℕ → Text → List Finding
   findings_if_first source e at s = unused_findings rules.is_referred e at ++ rules.compare source e s
@@ -66,7 +81,7 @@ module _ (rules : Rules) where
   findings_of_entry before source e at s (Some id) =
       let duplicates = duplicate_findings rules.functions before e at id in
       duplicates
-      ++ (entry_findings rules.ids rules.reference rules.plurals source e s
+      ++ (own_findings source e s
       ++ (if length duplicates == 0 then findings_if_first source e at s else []))
 
   abbrev pub findings_of_tile : List Declaration → File → Tile → List Finding

@@ -43,7 +43,8 @@ impl Remark {
         Remark::new(Severity::Note, code, text)
     }
 
-    fn new(severity: Severity, code: &'static str, text: String) -> Remark
+    /// A remark without a hint, of this severity.
+    pub fn new(severity: Severity, code: &'static str, text: String) -> Remark
         ensures { remark_view result ≡ f.remark (severity_view severity) code.now (string_bytes text) }
     {
         Remark {

@@ -8,7 +8,7 @@ use Rattle.fluent_ids.specs.IdsView.{ids_view}
 use Rattle.fluent_ids.specs.declared.ids.FluentIds.{FluentIds}
 use Rattle.fluent_meaning.specs.Ids.{Ids, find}
 use Rattle.fluent_plurals.specs.declared.plurals.LanguagePlurals.{LanguagePlurals}
-use Rattle.lint_findings.specs.EntryFindings.{category_remark, flaw_remark, node_categories, node_flaws, node_remarks}
+use Rattle.lint_findings.specs.EntryFindings.{category_remark, flaw_remark, node_categories, node_flaws, node_remarks, shows_number}
 use Rattle.lint_findings.specs.Misuses.{Misuse, argument_misuse, misuse_remark, misuses_of, overruled_by, overruled_misuses}
 use Rattle.lint_findings.specs.Facts.{Fact, fact_remark}
 use Rattle.lint_findings.specs.Finding as f
@@ -83,7 +83,7 @@ AddsBeside row ns old new = AddsMisuses (overruled_misuses (builtin_view row) ns
 
 -- those on the categories that a node lacks are added
 abbrev pub AddsCategories : Option LanguagePlurals → Node → Vec Remark Global → Vec Remark Global → Type 0
-AddsCategories plurals node old new = AddsRemarks old new (map category_remark (node_categories plurals node))
+AddsCategories plurals node old new = AddsRemarks old new (map (category_remark (shows_number node)) (node_categories plurals node))
 
 -- ---- flaws, by the ids of a catalog and of its reference
 

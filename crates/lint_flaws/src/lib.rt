@@ -35,6 +35,8 @@ mod quoted;
 mod remarks;
 mod rules;
 mod scripts;
+mod selectors;
+mod shown;
 mod term_uses;
 mod words;
 
@@ -48,5 +50,7 @@ pub use plural_keys::category_named;
 pub use quoted::first_quoted;
 pub use remarks::node_remarks;
 pub use rules::{has_forms, selector_rule};
+pub use selectors::counted;
+pub use shown::{arguments_show, pattern_shows};
 pub use term_uses::{push_attributes, push_nodes};
 pub use words::word_remarks;

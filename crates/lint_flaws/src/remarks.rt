@@ -2,7 +2,7 @@
 #![tactic(auto)]
 
 ghost use Rattle.std.specs.Prelude.{◌≡◌, IfOk, OnOk, map};
-ghost use Rattle.lint_findings.specs.View.{remark_view};
+ghost use Rattle.lint_findings.specs.View.{remark_view, severity_view};
 ghost use Rattle.lint_findings.specs.EntryFindings as e;
 ghost use Rattle.lint_flaws.specs.Common.{AreCommonBy};
 ghost use Rattle.lint_flaws.specs.Said.{AddsCategories, AddsFlaw, AddsRemarks, AreOnNode};
@@ -15,9 +15,10 @@ use crate::missing::node_categories;
 use crate::misuses::push_misuses;
 use crate::nodes::node_flaw;
 use crate::rules::category_text;
+use crate::shown::shows_number;
 use fluent_number::PluralCategory;
 use fluent_plurals::LanguagePlurals;
-use lint_findings::{CatalogIds, Remark};
+use lint_findings::{CatalogIds, Remark, Severity};
 use lint_nodes::Node;
 use std::alloc::{AllocError, Global};
 
@@ -74,18 +75,53 @@ fn push_categories(
     ensures { OnOk result (AddsCategories plurals (node_view node.entry) found.old found.new) }
 {
     let categories = node_categories(alloc, plurals, common, node)?;
-    for category in &categories {
-        found.push(category_remark(alloc, *category)?)?;
+    push_missing(alloc, shows_number(node), &categories, found)
+}
+
+/// Adds the remarks on categories that a select lacks, which may show its number.
+fn push_missing(
+    alloc: Global,
+    is_shown: bool,
+    categories: &[PluralCategory],
+    found: &mut Vec<Remark>,
+) -> Result<(), AllocError>
+    ensures { OnOk result (AddsRemarks found.old found.new
+        (map (e.category_remark is_shown) categories.now)) }
+{
+    for category in categories {
+        found.push(category_remark(alloc, is_shown, *category)?)?;
     }
     Ok(())
 }
 
-fn category_remark(alloc: Global, category: PluralCategory) -> Result<Remark, AllocError>
-    ensures { IfOk result (λ said. remark_view said ≡ e.category_remark category) }
+/// The remark on a select that lacks a category, and may show its number.
+fn category_remark(
+    alloc: Global,
+    is_shown: bool,
+    category: PluralCategory,
+) -> Result<Remark, AllocError>
+    ensures { IfOk result (λ said. remark_view said ≡ e.category_remark is_shown category) }
 {
     let name = category_text(category);
     let text = format!(in alloc; "there is no variant for the plural category `{name}`")?;
-    Ok(Remark::warning("missing-category", text))
+    Ok(Remark::new(
+        category_severity(is_shown, category),
+        "missing-category",
+        text,
+    ))
+}
+
+fn category_severity(is_shown: bool, category: PluralCategory) -> Severity
+    ensures { severity_view result ≡ e.category_severity is_shown category }
+{
+    if is_shown {
+        return Severity::Warning;
+    }
+    match category {
+        PluralCategory::FEW | PluralCategory::MANY => Severity::Note,
+        PluralCategory::ZERO | PluralCategory::ONE | PluralCategory::TWO | PluralCategory::OTHER =>
+            Severity::Warning,
+    }
 }
 
 fn push_escapes(

@@ -1,7 +1,7 @@
 use Rattle.std.proofs.Common.{◌≡◌, map, drop}
 use Rattle.fluent_ast.specs.View.{element_view, elements_of, inline_view, inlines_of, variant_view, variants_of}
 use Rattle.lint_findings.specs.Shown as s
-use Rattle.lint_comparison.proofs.shown.+shown.Given as goal
+use Rattle.lint_flaws.proofs.shown.+shown.Given as goal
 
 -- what was passed doesn't show it
 abbrev pub invariant-pattern_shows-loop-element : goal.invariant-pattern_shows-loop-element
