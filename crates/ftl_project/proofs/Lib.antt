@@ -1,3 +1,5 @@
 mod Counted
 mod Later
+mod Lines
 mod Pieces
+mod Taken

@@ -62,11 +62,15 @@ pub record Written : Type 0 where
   pub text : Text
   pub has_failed : Bool
 
--- What is written is the report on some groups of findings, and a failure is one of their languages.
-pub record IsReport (format : Format) (notes strict : Bool) (w : Written) : Type 0 where
-  pub groups : List GroupFound
+-- What is written is the report on these groups of findings, and a failure is one of their languages.
+pub record IsReportOf (format : Format) (notes strict : Bool) (groups : List GroupFound) (w : Written) : Type 0 where
   pub text : w.text ≡ groups_text format notes groups
   pub failed : w.has_failed ≡ list_any (group_fails strict) groups
+
+-- so it is of some groups
+pub record IsReport (format : Format) (notes strict : Bool) (w : Written) : Type 0 where
+  pub groups : List GroupFound
+  pub of : IsReportOf format notes strict groups w
 
 -- ---- the code's values
 
@@ -89,5 +93,5 @@ text_of_group o g = group_text (format_view o.format) o.notes g
 abbrev pub has_failure : Output → List GroupFound → Bool
 has_failure o gs = list_any (group_fails o.strict) gs
 
-abbrev pub IsReportBy : Output → ProjectReport → Type 0
-IsReportBy o r = IsReport (format_view o.format) o.notes o.strict (report_view r)
+abbrev pub IsReportBy : Output → List GroupFound → ProjectReport → Type 0
+IsReportBy o gs r = IsReportOf (format_view o.format) o.notes o.strict gs (report_view r)

@@ -2,8 +2,13 @@
 //!
 //! A baseline has a line of JSON for each finding that there was, without its place: so a finding
 //! stays known if its line moves. Two findings of an entry that say the same are one.
-ghost use Rattle.std.specs.Prelude.{◌≡◌, OnErr, OnOk};
+ghost use Rattle.std.specs.Prelude.{◌≡◌, [], ◌∷◌, IfOk, OnErr, OnOk, option_copied, string_bytes};
+ghost use Rattle.fluent_grammar.specs.Words.{is_among};
 ghost use Rattle.ftl_files.specs.Files.{IsReplaced};
+ghost use Rattle.lint_findings.specs.View.{file_findings_view, findings_view};
+ghost use Rattle.lint_report.specs.View.{in_file};
+ghost use Rattle.ftl_project.specs.Baselines.{AddsNew, LeavesOut, LeavesOutIn, LeavesOutOf, known_line, line_with, lines_of, text_of_lines, with_shown};
+ghost use Rattle.ftl_project.specs.Reports.{all_found, groups_view};
 
 use crate::json::{is_shown, put_optional, put_text};
 use crate::loading::{bytes_of, text_of, unreadable};
@@ -13,11 +18,12 @@ use ftl_files::{FileError, Folder, ReplaceError};
 use lint_findings::{File, FileFindings, Finding};
 use serde_json::{Map, Value};
 use std::alloc::{AllocError, Global};
+use std::collections::BTreeSet;
 
 /// The lines of findings, in the order of their bytes, each once.
 #[derive(Drop)]
 pub struct Baseline {
-    lines: Vec<String>,
+    lines: BTreeSet<String>,
 }
 
 /// Reads the baseline of a file. The files stay as they are.
@@ -77,49 +83,100 @@ fn unwritable(alloc: Global, name: &str, why: Option<&'static str>) -> Result<St
 }
 
 impl Baseline {
+    /// No lines.
+    fn new(alloc: Global) -> Self
+        ensures { lines_of result ≡ [] }
+    {
+        Baseline {
+            lines: BTreeSet::new(alloc),
+        }
+    }
+
     /// The baseline of the text of a file.
     fn of_text(alloc: Global, name: &str, text: &str) -> Result<Self, ProjectError> {
-        let mut lines = Vec::new(alloc);
+        let mut baseline = Baseline::new(alloc);
         for (index, line) in text.lines().enumerate() {
             match line_read(alloc, line)? {
-                Some(line) => lines.push(line)?,
+                Some(line) => {
+                    baseline.lines.insert(line)?;
+                }
                 None => return Err(ProjectError::at(alloc, name, index + 1, "not a finding")),
             }
         }
-        Ok(Baseline::of(lines)?)
-    }
-
-    /// The baseline of these lines.
-    fn of(lines: Vec<String>) -> Result<Self, AllocError> {
-        let mut lines = lines;
-        lines.sort()?;
-        lines.dedup();
-        Ok(Baseline { lines })
+        Ok(baseline)
     }
 
     /// The baseline of what is reported of these groups.
     ///
     /// # Errors
     /// [`AllocError`] if memory runs out; nothing is kept.
-    pub fn of_groups(alloc: Global, notes: bool, groups: &[Group<'_>]) -> Result<Self, AllocError> {
-        let mut lines = Vec::new(alloc);
+    pub fn of_groups(alloc: Global, notes: bool, groups: &[Group<'_>]) -> Result<Self, AllocError>
+        ensures { IfOk result (λ made. lines_of made
+            ≡ with_shown notes [] (all_found (groups_view groups.now))) }
+    {
+        let mut baseline = Baseline::new(alloc);
         for group in groups {
-            for file in &group.found {
-                for finding in &file.findings {
-                    if is_shown(finding.severity, notes) {
-                        lines.push(line_of(alloc, &file.file, finding)?)?;
-                    }
-                }
-            }
+            baseline.add_files(alloc, notes, &group.found)?;
         }
-        Baseline::of(lines)
+        Ok(baseline)
+    }
+
+    /// Adds the lines of what is reported of files.
+    fn add_files(
+        &mut self,
+        alloc: Global,
+        notes: bool,
+        found: &[FileFindings<'_>],
+    ) -> Result<(), AllocError>
+        ensures { OnOk result (lines_of self.new
+            ≡ with_shown notes (lines_of self.old) (findings_view found.now)) }
+    {
+        for file in found {
+            self.add_file(alloc, notes, file)?;
+        }
+        Ok(())
+    }
+
+    /// Adds the lines of what is reported of a file.
+    fn add_file(
+        &mut self,
+        alloc: Global,
+        notes: bool,
+        found: &FileFindings<'_>,
+    ) -> Result<(), AllocError>
+        ensures { OnOk result (lines_of self.new
+            ≡ with_shown notes (lines_of self.old) (file_findings_view found.now)) }
+    {
+        for finding in &found.findings {
+            self.add(alloc, notes, &found.file, finding)?;
+        }
+        Ok(())
+    }
+
+    /// Adds the line of a finding of a file, unless it is a note and notes are left out.
+    fn add(
+        &mut self,
+        alloc: Global,
+        notes: bool,
+        file: &File<'_>,
+        finding: &Finding,
+    ) -> Result<(), AllocError>
+        ensures { OnOk result (lines_of self.new
+            ≡ with_shown notes (lines_of self.old) (in_file file.now finding.now ∷ [])) }
+    {
+        if is_shown(finding.severity, notes) {
+            self.lines.insert(line_of(alloc, file, finding)?)?;
+        }
+        Ok(())
     }
 
     /// Its text: a line after the other.
     ///
     /// # Errors
     /// [`AllocError`] if memory runs out; nothing is kept.
-    pub fn text(&self, alloc: Global) -> Result<String, AllocError> {
+    pub fn text(&self, alloc: Global) -> Result<String, AllocError>
+        ensures { IfOk result (λ text. string_bytes text ≡ text_of_lines (lines_of self.now)) }
+    {
         let mut text = String::new(alloc);
         for line in &self.lines {
             text.push_str(line.as_str())?;
@@ -136,14 +193,27 @@ impl Baseline {
         &self,
         alloc: Global,
         found: Vec<FileFindings<'s>>,
-    ) -> Result<Vec<FileFindings<'s>>, AllocError> {
+    ) -> Result<Vec<FileFindings<'s>>, AllocError>
+        ensures { IfOk result (LeavesOut self.now found.entry.items) }
+    {
         let mut files = Vec::with_capacity(alloc, found.len())?;
         for file in found {
-            let FileFindings { file, findings } = file;
-            let findings = self.new_among(alloc, &file, findings)?;
-            files.push(FileFindings { file, findings })?;
+            files.push(self.new_in(alloc, file)?)?;
         }
         Ok(files)
+    }
+
+    /// A file with those of its findings that aren't known.
+    fn new_in<'s>(
+        &self,
+        alloc: Global,
+        found: FileFindings<'s>,
+    ) -> Result<FileFindings<'s>, AllocError>
+        ensures { IfOk result (LeavesOutIn self.now found.entry) }
+    {
+        let FileFindings { file, findings } = found;
+        let findings = self.new_among(alloc, &file, findings)?;
+        Ok(FileFindings { file, findings })
     }
 
     /// Those of these findings of a file that aren't known.
@@ -152,27 +222,45 @@ impl Baseline {
         alloc: Global,
         file: &File<'_>,
         findings: Vec<Finding>,
-    ) -> Result<Vec<Finding>, AllocError> {
-        let mut new = Vec::new(alloc);
+    ) -> Result<Vec<Finding>, AllocError>
+        ensures { IfOk result (LeavesOutOf self.now file.now findings.items) }
+    {
+        let mut left = Vec::new(alloc);
         for finding in findings {
-            let line = line_of(alloc, file, &finding)?;
-            if !self.has(line.as_str()) {
-                new.push(finding)?;
-            }
+            self.push_new(alloc, file, finding, &mut left)?;
         }
-        Ok(new)
+        Ok(left)
+    }
+
+    /// Appends a finding of a file, unless it is known.
+    fn push_new(
+        &self,
+        alloc: Global,
+        file: &File<'_>,
+        finding: Finding,
+        left: &mut Vec<Finding>,
+    ) -> Result<(), AllocError>
+        ensures { OnOk result (AddsNew self.now file.now finding left.old left.new) }
+    {
+        let line = line_of(alloc, file, &finding)?;
+        if !self.has(line.as_str()) {
+            left.push(finding)?;
+        }
+        Ok(())
     }
 
     /// Whether it has a line.
-    fn has(&self, line: &str) -> bool {
-        self.lines
-            .binary_search_by(|other| other.as_str().cmp(line))
-            .is_ok()
+    fn has(&self, line: &str) -> bool
+        ensures { result ≡ is_among line.now (lines_of self.now) }
+    {
+        self.lines.contains(line)
     }
 }
 
 /// The line of a finding of a file.
-fn line_of(alloc: Global, file: &File<'_>, finding: &Finding) -> Result<String, AllocError> {
+fn line_of(alloc: Global, file: &File<'_>, finding: &Finding) -> Result<String, AllocError>
+    ensures { IfOk result (λ line. string_bytes line ≡ known_line (in_file file.now finding.now)) }
+{
     let entry = finding.entry.as_ref().map(|entry| entry.as_str());
     line_with(alloc, finding.code, entry, file.name, finding.text.as_str())
 }
@@ -217,7 +305,10 @@ fn line_with(
     entry: Option<&str>,
     file: &str,
     text: &str,
-) -> Result<String, AllocError> {
+) -> Result<String, AllocError>
+    ensures { IfOk result (λ line. string_bytes line
+        ≡ line_with code.now (option_copied entry.entry) file.now text.now) }
+{
     let mut members = Map::new(alloc);
     put_text(&mut members, alloc, "code", code)?;
     put_optional(&mut members, alloc, "entry", entry)?;

@@ -3,7 +3,9 @@ ghost use Rattle.std.specs.Prelude.{◌≡◌, IfOk, OnOk, string_bytes};
 ghost use Rattle.std.specs.List.{flat_map, list_any};
 ghost use Rattle.lint_findings.specs.View.{findings_view};
 ghost use Rattle.lint_report.specs.Changes.{Appends};
-ghost use Rattle.ftl_project.specs.Reports.{IsReportBy, all_found, group_fails, group_lines, group_name, group_view, groups_view, has_failure, text_by, text_of_group};
+ghost use Rattle.fluent_lint.specs.Reports.{ignored_by};
+ghost use Rattle.ftl_project.specs.Left.{AreNew, IsNew, IsReportLeft, IsWritten, kept_by, kept_group};
+ghost use Rattle.ftl_project.specs.Reports.{all_found, group_fails, group_lines, group_name, group_view, groups_view, has_failure, text_by, text_of_group};
 
 use crate::baseline::Baseline;
 use crate::json::push_json_findings;
@@ -57,12 +59,11 @@ pub fn report_groups(
     known: Known<'_>,
     groups: Vec<Group<'_>>,
 ) -> Result<ProjectReport, AllocError>
-    ensures { IfOk result (IsReportBy output.entry) }
+    ensures report { IfOk result (IsReportLeft output.entry known.entry groups.entry.items) }
+    ensures baseline { IfOk result (IsWritten output.entry known.entry groups.entry.items) }
 {
     let mut groups = groups;
-    for group in &mut groups {
-        keep_reported(&mut group.found, output.ignored);
-    }
+    keep_in_groups(&mut groups, output);
     match known {
         Known::Nothing => report_kept(alloc, output, groups, None),
         Known::Baseline(baseline) => {
@@ -78,27 +79,52 @@ pub fn report_groups(
     }
 }
 
+/// Leaves out the findings of groups whose code is ignored.
+fn keep_in_groups(groups: &mut [Group<'_>], output: Output<'_>)
+    ensures { groups_view groups.new ≡ kept_by output.entry (groups_view groups.old) }
+{
+    for group in groups.iter_mut() {
+        keep_in(group, output);
+    }
+}
+
+/// Leaves out the findings of a group whose code is ignored.
+fn keep_in(group: &mut Group<'_>, output: Output<'_>)
+    ensures { group_view group.new ≡ kept_group (ignored_by output.entry) (group_view group.old) }
+{
+    keep_reported(&mut group.found, output.ignored);
+}
+
 /// The same groups without what a baseline has.
 fn new_groups<'s>(
     alloc: Global,
     baseline: &Baseline,
     groups: Vec<Group<'s>>,
-) -> Result<Vec<Group<'s>>, AllocError> {
+) -> Result<Vec<Group<'s>>, AllocError>
+    ensures { IfOk result (AreNew baseline.now groups.entry.items) }
+{
     let mut left = Vec::with_capacity(alloc, groups.len())?;
     for group in groups {
-        let Group {
-            locale,
-            found,
-            files,
-        } = group;
-        let found = baseline.leave_out(alloc, found)?;
-        left.push(Group {
-            locale,
-            found,
-            files,
-        })?;
+        left.push(new_in(alloc, baseline, group)?)?;
     }
     Ok(left)
+}
+
+/// The same group without what a baseline has.
+fn new_in<'s>(alloc: Global, baseline: &Baseline, group: Group<'s>) -> Result<Group<'s>, AllocError>
+    ensures { IfOk result (IsNew baseline.now group.entry) }
+{
+    let Group {
+        locale,
+        found,
+        files,
+    } = group;
+    let found = baseline.leave_out(alloc, found)?;
+    Ok(Group {
+        locale,
+        found,
+        files,
+    })
 }
 
 /// The report on groups, of which all findings are reported, and a baseline.
@@ -112,6 +138,7 @@ fn report_kept(
         ≡ text_by output.entry (groups_view groups.entry.items)) }
     ensures failed { IfOk result (λ made. made.has_failed
         ≡ has_failure output.entry (groups_view groups.entry.items)) }
+    ensures baseline { IfOk result (λ made. made.baseline ≡ baseline) }
 {
     let has_failed = has_language_failed(output.strict, &groups);
     let text = text_of(alloc, output, groups)?;
