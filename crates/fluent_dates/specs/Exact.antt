@@ -5,7 +5,7 @@ use Rattle.fluent_date_tables.specs.Lists.{list_numbered}
 use Rattle.fluent_date_tables.specs.Skeletons.{skeletons}
 use Rattle.fluent_dates.specs.Matching.{Found, no_gap}
 
--- whether measures are the same
+-- whether measures are the same, up to the end of the shorter list
 abbrev pub are_same : List ℕ → List ℕ → Bool
 are_same [] known = true
 are_same (asked ∷ wanted) [] = true
