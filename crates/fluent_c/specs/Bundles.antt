@@ -15,12 +15,13 @@ use Rattle.fluent_answers.specs.Sources.{Settings}
 use Rattle.fluent_numerals.specs.Lookup.{locale_for}
 use Rattle.fluent_serve.specs.Frames.{Reply, ended}
 use Rattle.fluent_c.specs.Answering.{plurals_in, settings_of, texts_of}
-use Rattle.fluent_c.specs.Arguments.{AreRefusedFor, pair_of}
+use Rattle.fluent_c.specs.Arguments.{AreRefusedFor}
+use Rattle.fluent_kept.specs.Given.{pair_of}
 use Rattle.fluent_c.specs.Made.{Holds, HoldsNone}
 use Rattle.fluent_c.specs.declared.answering.FluentSource.{FluentSource}
 use Rattle.fluent_c.specs.declared.bundles.Asking.{Asking}
 use Rattle.fluent_c.specs.declared.arguments.ArgumentRefusal.TheVariants.{NotUtf8}
-use Rattle.fluent_c.specs.declared.arguments.FluentArgument.{FluentArgument}
+use Rattle.fluent_kept.specs.declared.given.FluentArgument.{FluentArgument}
 use Rattle.fluent_c.specs.declared.text.FluentText.{FluentText}
 
 -- what a bundle is made of, if the locale has plural rules

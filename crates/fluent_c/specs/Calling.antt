@@ -16,7 +16,8 @@ use Rattle.fluent_serve.specs.Requests.{Request}
 use Rattle.fluent_value.specs.Args.{all_set}
 use Rattle.fluent_value.specs.Value.{Value}
 use Rattle.fluent_c.specs.Answering.{AreUtf8, HoldsOther, plurals_in, texts_of}
-use Rattle.fluent_c.specs.Arguments.{AreRefusedFor, AreTaken, HoldsBad, pair_of}
+use Rattle.fluent_c.specs.Arguments.{AreRefusedFor, AreTaken, HoldsBad}
+use Rattle.fluent_kept.specs.Given.{pair_of}
 use Rattle.fluent_c.specs.Bundles.{AreNames, HasOther, HoldReply, KeepsNone, KeepsWith, attribute_in, reply_in}
 use Rattle.fluent_c.specs.Made.{Holds}
 use Rattle.fluent_c.specs.Options.{dates_in, settings_in, stack_in}
@@ -25,7 +26,7 @@ use Rattle.fluent_c.specs.declared.TheConstants.{FLUENT_READ, FLUENT_NOT_UTF8, F
 use Rattle.fluent_c.specs.declared.answering.FluentSource.{FluentSource}
 use Rattle.fluent_c.specs.declared.arguments.ArgumentRefusal.{ArgumentRefusal}
 use Rattle.fluent_c.specs.declared.arguments.ArgumentRefusal.TheVariants.{Memory, NotUtf8, NoValue}
-use Rattle.fluent_c.specs.declared.arguments.FluentArgument.{FluentArgument}
+use Rattle.fluent_kept.specs.declared.given.FluentArgument.{FluentArgument}
 use Rattle.fluent_c.specs.declared.options.FluentBundleOptions.{FluentBundleOptions}
 use Rattle.fluent_c.specs.declared.text.FluentText.{FluentText}
 

@@ -14,12 +14,13 @@ use Rattle.fluent_dates.specs.Writing.{date_text}
 use Rattle.fluent_grammar.specs.Words.{Text}
 use Rattle.fluent_value.specs.Args.{all_set, argument, number_of, text_of}
 use Rattle.fluent_value.specs.Value.{Value}
-use Rattle.fluent_c.specs.Arguments.{AreRefusedFor, AreTaken, HoldsBad, pair_of}
+use Rattle.fluent_c.specs.Arguments.{AreRefusedFor, AreTaken, HoldsBad}
+use Rattle.fluent_kept.specs.Given.{pair_of}
 use Rattle.fluent_c.specs.Made.{Holds}
 use Rattle.fluent_c.specs.Statuses.{IsOneOf}
 use Rattle.fluent_c.specs.declared.TheConstants.{FLUENT_READ, FLUENT_NOT_UTF8, FLUENT_NO_MEMORY, FLUENT_UNKNOWN_LOCALE, FLUENT_BAD_ARGUMENT}
 use Rattle.fluent_c.specs.declared.arguments.ArgumentRefusal.TheVariants.{NotUtf8}
-use Rattle.fluent_c.specs.declared.arguments.FluentArgument.{FluentArgument}
+use Rattle.fluent_kept.specs.declared.given.FluentArgument.{FluentArgument}
 use Rattle.fluent_c.specs.declared.dates.FluentDate.{FluentDate}
 use Rattle.fluent_c.specs.declared.text.FluentText.{FluentText}
 

@@ -1,13 +1,16 @@
 -- What C learns of a pattern whose text is written into its memory.
-use Rattle.std.specs.Prelude.{◌≡◌, ◌<◌, ◌≤◌, ◌==◌, ◌++◌, if◌then◌else◌, ℕ, List, [], ◌∷◌, Option, IsSomeAnd, All, drop, length}
+use Rattle.std.specs.Prelude.{◌≡◌, ◌<◌, ◌≤◌, ◌==◌, ◌++◌, if◌then◌else◌, ℕ, true, false, List, [], ◌∷◌, Option, IsSomeAnd, MatchOption, All, drop, length}
+use Rattle.fluent_kept.specs.Answers.{IsReplyOrCall}
+use Rattle.fluent_kept.specs.Catalogs.{catalog_environment}
 use Rattle.fluent_kept.specs.declared.handle.FluentBundle.{FluentBundle}
+use Rattle.fluent_kept.specs.declared.question.Answer.{Answer}
 use Rattle.fluent_serve.specs.Frames.{Reply}
-use Rattle.fluent_c.specs.Arguments.{HasTexts}
-use Rattle.fluent_c.specs.Bundles.{AreNames, HoldsLines}
-use Rattle.fluent_c.specs.Calling.{Calls, called_in}
+use Rattle.fluent_kept.specs.Given.{HasTexts, given_view}
+use Rattle.fluent_c.specs.Bundles.{AreNames, HoldsLines, attribute_in}
+use Rattle.fluent_c.specs.Calling.{Calls, called_in, calling_in}
 use Rattle.fluent_c.specs.Statuses.{IsOneOf}
 use Rattle.fluent_c.specs.declared.TheConstants.{FLUENT_READ, FLUENT_NO_MEMORY, FLUENT_NO_MESSAGE, FLUENT_NO_PATTERN, FLUENT_BAD_ARGUMENT, FLUENT_NO_BUNDLE, FLUENT_CALL, FLUENT_NO_ROOM}
-use Rattle.fluent_c.specs.declared.arguments.FluentArgument.{FluentArgument}
+use Rattle.fluent_kept.specs.declared.given.FluentArgument.{FluentArgument}
 use Rattle.fluent_c.specs.declared.patterns.FluentPattern.{FluentPattern}
 use Rattle.fluent_c.specs.declared.patterns.Unwritten.{Unwritten}
 use Rattle.fluent_c.specs.declared.patterns.Unwritten.TheVariants.{Memory, NoRoom}
@@ -20,6 +23,15 @@ ArePromised pattern arguments = AreNames pattern.id.now pattern.attribute.now ×
 -- what a bundle replies for a pattern with these arguments, without answers to calls
 abbrev pub written_in : FluentBundle → FluentPattern → List FluentArgument → Option Reply
 written_in bundle pattern arguments = called_in bundle pattern.id.now pattern.attribute.now arguments []
+
+-- what a bundle answers for a pattern with these arguments, if there is a bundle, without answers to calls
+abbrev pub IsAnswerOf : FluentBundle → FluentPattern → List FluentArgument → Answer → Type 0
+IsAnswerOf bundle pattern arguments answer = IsReplyOrCall (catalog_environment bundle.catalog) (calling_in bundle [])
+    pattern.id.now (attribute_in pattern.attribute.now) (given_view arguments) [] answer
+
+abbrev pub IsAnswerTo : FluentBundle → FluentPattern → List FluentArgument → Option Answer → Type 0
+IsAnswerTo bundle pattern arguments found =
+    MatchOption found (bundle.held ≡ false) (λ answer. (bundle.held ≡ true) × IsAnswerOf bundle pattern arguments answer)
 
 -- what a call returns that has as much room as it needs
 abbrev pub called_status : ℕ → ℕ

@@ -9,7 +9,7 @@ use Rattle.fluent_c.specs.Bundles.{AreNames, HasNoMessage, HasNoPattern, HasOthe
 use Rattle.fluent_c.specs.Languages.{strategy_of}
 use Rattle.fluent_c.specs.declared.TheConstants.{FLUENT_READ, FLUENT_NOT_UTF8, FLUENT_NO_MEMORY, FLUENT_UNKNOWN_LOCALE, FLUENT_NO_MESSAGE, FLUENT_NO_PATTERN, FLUENT_BAD_ARGUMENT, FLUENT_NO_BUNDLE}
 use Rattle.fluent_c.specs.declared.answering.FluentSource.{FluentSource}
-use Rattle.fluent_c.specs.declared.arguments.FluentArgument.{FluentArgument}
+use Rattle.fluent_kept.specs.declared.given.FluentArgument.{FluentArgument}
 
 -- the number is one of these
 abbrev pub IsOneOf : ℕ → List ℕ → Type 0

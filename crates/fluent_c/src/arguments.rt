@@ -4,40 +4,16 @@ ghost use Rattle.std.specs.Prelude.{◌≡◌, [], IfErr, IfOk, OnOk, map};
 ghost use Rattle.std.specs.List.Sorted.{IsPermutation, IsSortedByKey, IsStableByKey};
 ghost use Rattle.fluent_run.specs.Dated.{dated_view};
 ghost use Rattle.fluent_value.specs.Args.{all_set, order};
-ghost use Rattle.fluent_c.specs.Arguments.{AreRefusedFor, AreTaken, IsRefusedFor, IsTaken, date_given, float_given, number_given, pair_of, value_given, value_seen, with_given};
+ghost use Rattle.fluent_c.specs.Arguments.{AreRefusedFor, AreTaken, IsRefusedFor, IsTaken, with_given};
+ghost use Rattle.fluent_kept.specs.Given.{pair_of};
 ghost use Rattle.fluent_c.specs.declared.arguments.ArgumentRefusal.TheVariants.{Memory};
 
 use crate::utf8::text_in;
-use crate::{
-    FLUENT_DATETIME, FLUENT_DECIMAL, FLUENT_FLOAT, FLUENT_INTEGER, FLUENT_NO_VALUE, FLUENT_TEXT,
-    FLUENT_UNSIGNED,
-};
-use fluent_date::FluentDateTime;
 use fluent_dates::DateTimeValue;
-use fluent_number::{FluentNumber, FluentNumberOptions};
-use fluent_value::{FluentArgs, FluentValue};
+use fluent_kept::{FluentArgument, value_of};
+use fluent_value::FluentArgs;
 use std::alloc::{AllocError, Global};
 use std::borrow::CowStr;
-
-/// An argument: its name, and a text, a number or a date, as its kind says.
-///
-/// ```c
-/// return (struct FluentArgument){
-///     .name = bytes_of(name), .name_len = strlen(name), .text = bytes_of(""), .integer = integer, .kind = FLUENT_INTEGER};
-/// ```
-#[repr(C)]
-#[derive(Clone, Copy)]
-pub struct FluentArgument<'a> {
-    pub name: &'a [u8],
-    /// The text, also if it looks like a number, the decimal as it is written, or the date as ISO
-    /// 8601 has it.
-    pub text: &'a [u8],
-    pub integer: i64,
-    pub unsigned: u64,
-    /// [`FLUENT_TEXT`], [`FLUENT_DECIMAL`], [`FLUENT_INTEGER`], [`FLUENT_UNSIGNED`],
-    /// [`FLUENT_NO_VALUE`], [`FLUENT_FLOAT`] or [`FLUENT_DATETIME`].
-    pub kind: u32,
-}
 
 /// Why arguments aren't taken.
 #[derive(Clone, Copy)]
@@ -55,71 +31,6 @@ impl From<AllocError> for ArgumentRefusal {
 
     fn from(_error: AllocError) -> ArgumentRefusal {
         ArgumentRefusal::Memory
-    }
-}
-
-/// The value of an argument whose text is UTF-8, or `None` if it has none.
-pub(crate) fn value_of<'a>(
-    argument: &FluentArgument<'a>,
-    text: &'a str,
-) -> Option<FluentValue<'a, DateTimeValue>>
-    requires { text.now ≡ argument.now.text.now }
-    ensures { value_seen result ≡ value_given argument.now }
-{
-    if argument.kind == FLUENT_TEXT {
-        return Some(FluentValue::String(CowStr::Borrowed(text)));
-    }
-    if argument.kind == FLUENT_DECIMAL {
-        return number_of(text);
-    }
-    if argument.kind == FLUENT_INTEGER {
-        return Some(FluentValue::from(argument.integer));
-    }
-    if argument.kind == FLUENT_UNSIGNED {
-        return Some(FluentValue::from(argument.unsigned));
-    }
-    if argument.kind == FLUENT_NO_VALUE {
-        return Some(FluentValue::Error);
-    }
-    if argument.kind == FLUENT_FLOAT {
-        return float_of(text);
-    }
-    if argument.kind == FLUENT_DATETIME {
-        return date_of(text);
-    }
-    None
-}
-
-/// The number that a text is, if it is one.
-fn number_of<'a>(text: &'a str) -> Option<FluentValue<'a, DateTimeValue>>
-    ensures { value_seen result ≡ number_given text.now }
-{
-    match text.parse::<FluentNumber>() {
-        Ok(number) => Some(FluentValue::Number(number)),
-        Err(_) => None,
-    }
-}
-
-/// The number that a text is, if it is one. Its digits don't say how many are shown.
-fn float_of<'a>(text: &'a str) -> Option<FluentValue<'a, DateTimeValue>>
-    ensures { value_seen result ≡ float_given text.now }
-{
-    match text.parse::<FluentNumber>() {
-        Ok(number) => Some(FluentValue::Number(FluentNumber::new(
-            number.value,
-            FluentNumberOptions::default(),
-        ))),
-        Err(_) => None,
-    }
-}
-
-/// The date that a text is, if it is one.
-fn date_of<'a>(text: &'a str) -> Option<FluentValue<'a, DateTimeValue>>
-    ensures { value_seen result ≡ date_given text.now }
-{
-    match text.parse::<FluentDateTime>() {
-        Ok(date) => Some(FluentValue::Custom(DateTimeValue(date))),
-        Err(_) => None,
     }
 }
 

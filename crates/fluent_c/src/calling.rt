@@ -8,7 +8,7 @@ ghost use Rattle.fluent_c.specs.Made.{HoldsSame};
 ghost use Rattle.fluent_c.specs.declared.TheConstants.{FLUENT_CALL, FLUENT_READ};
 
 use crate::answering::{FluentSource, Refusal, are_utf8, checked_texts};
-use crate::arguments::{ArgumentRefusal, FluentArgument, arguments_of};
+use crate::arguments::{ArgumentRefusal, arguments_of};
 use crate::bundles::copied;
 use crate::filling::{fill, take_spare};
 use crate::formatting::hand_out;
@@ -19,7 +19,7 @@ use crate::{
     FLUENT_BAD_ARGUMENT, FLUENT_BUNDLE_OPTIONS_SIZE, FLUENT_CALL, FLUENT_NO_BUNDLE,
     FLUENT_NO_MEMORY, FLUENT_NO_MESSAGE, FLUENT_NO_PATTERN, FLUENT_NOT_UTF8, FLUENT_READ,
 };
-use fluent_kept::{Answer, FluentBundle, Question};
+use fluent_kept::{Answer, FluentArgument, FluentBundle, Question};
 use std::alloc::Global;
 use std::cell::Cell;
 

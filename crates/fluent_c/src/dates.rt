@@ -8,13 +8,14 @@ ghost use Rattle.fluent_c.specs.Made.{Holds};
 ghost use Rattle.fluent_c.specs.declared.TheConstants.{FLUENT_READ};
 ghost use Rattle.fluent_dates.specs.Writing.{date_text};
 
-use crate::arguments::{ArgumentRefusal, FluentArgument, arguments_of};
+use crate::arguments::{ArgumentRefusal, arguments_of};
 use crate::text::FluentText;
 use crate::{
     FLUENT_BAD_ARGUMENT, FLUENT_NO_MEMORY, FLUENT_NOT_UTF8, FLUENT_READ, FLUENT_UNKNOWN_LOCALE,
 };
 use fluent_date::{CivilDate, DateError, FluentDateTime, FluentDateTimeOptions, Offset, TimeOfDay};
 use fluent_dates::LocaleDates;
+use fluent_kept::FluentArgument;
 use std::alloc::{AllocError, Global};
 
 /// A date of the Gregorian calendar, with its time if it has one, and the offset of its clock from

@@ -7,7 +7,7 @@ ghost use Rattle.fluent_c.specs.Made.{HoldsSame};
 ghost use Rattle.fluent_c.specs.Statuses.{Formats};
 ghost use Rattle.fluent_c.specs.declared.TheConstants.{FLUENT_READ};
 
-use crate::arguments::{ArgumentRefusal, FluentArgument, arguments_of};
+use crate::arguments::{ArgumentRefusal, arguments_of};
 use crate::filling::{fill, take_spare};
 use crate::names::names_of;
 use crate::text::FluentText;
@@ -15,7 +15,7 @@ use crate::{
     FLUENT_BAD_ARGUMENT, FLUENT_NO_BUNDLE, FLUENT_NO_MEMORY, FLUENT_NO_MESSAGE, FLUENT_NO_PATTERN,
     FLUENT_NOT_UTF8, FLUENT_READ,
 };
-use fluent_kept::{Answer, FluentBundle, Question};
+use fluent_kept::{Answer, FluentArgument, FluentBundle, Question};
 use fluent_run::Reply;
 use std::alloc::{AllocError, Global};
 use std::cell::Cell;

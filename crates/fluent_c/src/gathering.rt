@@ -6,7 +6,7 @@ ghost use Rattle.fluent_c.specs.Calling.{Calls, HoldsCalls};
 ghost use Rattle.fluent_c.specs.Made.{HoldsSame};
 ghost use Rattle.fluent_c.specs.declared.TheConstants.{FLUENT_CALL, FLUENT_READ};
 
-use crate::arguments::{FluentArgument, arguments_of};
+use crate::arguments::arguments_of;
 use crate::calling::status_of;
 use crate::listing::put_names;
 use crate::names::names_of;
@@ -14,7 +14,7 @@ use crate::text::FluentText;
 use crate::{
     FLUENT_NO_BUNDLE, FLUENT_NO_MEMORY, FLUENT_NO_MESSAGE, FLUENT_NO_PATTERN, FLUENT_NOT_UTF8,
 };
-use fluent_kept::{Answer, FluentBundle, Question};
+use fluent_kept::{Answer, FluentArgument, FluentBundle, Question};
 use std::alloc::Global;
 
 /// Lists calls that have no answer and that a message meets whatever any of them gives: `calls`

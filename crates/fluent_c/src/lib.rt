@@ -46,7 +46,6 @@ mod version;
 mod writing;
 
 pub use answering::{FluentSource, fluent_answer, fluent_answer_plain};
-pub use arguments::FluentArgument;
 pub use bundles::{
     fluent_bundle_errors, fluent_bundle_free, fluent_bundle_has, fluent_bundle_new,
     fluent_bundle_new_plain, fluent_bundle_new_within,
@@ -55,7 +54,10 @@ pub use calling::{fluent_bundle_call, fluent_bundle_new_calling};
 pub use counts::{FluentCounts, fluent_parse, fluent_parse_runtime};
 pub use dates::{FluentDate, fluent_write_date};
 pub use files::FluentFile;
-pub use fluent_kept::FluentBundle;
+pub use fluent_kept::{
+    FLUENT_DATETIME, FLUENT_DECIMAL, FLUENT_FLOAT, FLUENT_INTEGER, FLUENT_NO_VALUE, FLUENT_TEXT,
+    FLUENT_UNSIGNED, FluentArgument, FluentBundle,
+};
 pub use formatting::fluent_bundle_format;
 pub use gathering::fluent_bundle_calls;
 pub use languages::fluent_negotiate;
@@ -117,22 +119,6 @@ pub const FLUENT_NOT_JSON: u32 = 13;
 pub const FLUENT_NOT_TREE: u32 = 14;
 /// What a call returns whose text has more bytes than it was given room for.
 pub const FLUENT_NO_ROOM: u32 = 15;
-/// The kind of an argument that is a text.
-pub const FLUENT_TEXT: u32 = 0;
-/// The kind of an argument that is a number, written as a decimal.
-pub const FLUENT_DECIMAL: u32 = 1;
-/// The kind of an argument that is a signed integer.
-pub const FLUENT_INTEGER: u32 = 2;
-/// The kind of an argument that is an unsigned integer.
-pub const FLUENT_UNSIGNED: u32 = 3;
-/// The kind of an argument that has no value, as a variable that is missing; of an answer to a
-/// call, that there is none.
-pub const FLUENT_NO_VALUE: u32 = 4;
-/// The kind of an argument that is a float: a decimal whose digits don't say how many are shown.
-pub const FLUENT_FLOAT: u32 = 5;
-/// The kind of an argument that is a date, with its time and the offset of its clock if it has
-/// them: a text as ISO 8601 has it, such as `2026-11-28` or `2026-11-28T20:15:00+01:00`.
-pub const FLUENT_DATETIME: u32 = 6;
 /// The strategy that finds all languages that suit any of the user's.
 pub const FLUENT_FILTERING: u32 = 0;
 /// The strategy that finds the best language for each of the user's.

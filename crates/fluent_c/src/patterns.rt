@@ -1,25 +1,27 @@
 //! Patterns that are looked up once, and whose texts are written into memory of the caller.
 
-ghost use Rattle.std.specs.Prelude.{◌≡◌, ◌≢◌, IfErr, OnErr, OnOk};
+ghost use Rattle.std.specs.Prelude.{◌≡◌, ◌≢◌, IfErr, IfOk, OnErr, OnOk};
 ghost use Rattle.fluent_c.specs.Bundles.{AreNamed, AreNames, KeepsSame};
 ghost use Rattle.fluent_c.specs.Made.{HoldsSame};
-ghost use Rattle.fluent_c.specs.Patterns.{ArePromised, Exceeds, HasNoLen, IsUnwrittenFor, Returns, Writes, WritesIn};
+ghost use Rattle.fluent_c.specs.Arguments.{AreRefusedFor, AreTaken};
+ghost use Rattle.fluent_c.specs.Patterns.{ArePromised, Exceeds, HasNoLen, IsAnswerTo, IsUnwrittenFor, Returns, Writes, WritesIn};
 ghost use Rattle.fluent_c.specs.Statuses.{LooksFor};
 ghost use Rattle.fluent_c.specs.declared.TheConstants.{FLUENT_NO_ROOM, FLUENT_READ};
 ghost use Rattle.fluent_run.specs.ReplyView.{reply_view};
 
-use crate::arguments::FluentArgument;
+use crate::arguments::{ArgumentRefusal, FEW, arguments_of};
 use crate::calling::status_of;
 use crate::formatting::error_lines;
 use crate::names::names_of;
-use crate::promised::promised_arguments;
+use crate::promised::check_values;
 use crate::text::FluentText;
 use crate::{
     FLUENT_CALL, FLUENT_NO_BUNDLE, FLUENT_NO_MEMORY, FLUENT_NO_MESSAGE, FLUENT_NO_PATTERN,
     FLUENT_NO_ROOM, FLUENT_NOT_UTF8, FLUENT_READ,
 };
-use fluent_kept::{Answer, FluentBundle, Question};
+use fluent_kept::{Answer, FluentArgument, FluentBundle, Given, Question};
 use fluent_run::Reply;
+use fluent_value::FluentArgs;
 use std::alloc::Global;
 use std::cell::Cell;
 use std::str::from_utf8_unchecked;
@@ -94,6 +96,65 @@ fn named<'a>(pattern: &FluentPattern<'a>) -> (&'a str, Option<&'a str>)
         return (id, None);
     }
     (id, Some(unsafe { from_utf8_unchecked(pattern.attribute) }))
+}
+
+/// What a bundle answers for a pattern with these arguments, which stay where they are unless they
+/// are many.
+///
+/// # Errors
+/// [`ArgumentRefusal::NoValue`] if one of them has no value, and [`ArgumentRefusal::Memory`] if
+/// memory runs out for many.
+fn answer_to<'a>(
+    alloc: Global,
+    bundle: &mut FluentBundle,
+    pattern: &FluentPattern<'a>,
+    arguments: &[FluentArgument<'a>],
+) -> Result<Option<Answer>, ArgumentRefusal>
+    requires { ArePromised pattern.now arguments.now }
+    ensures answer { IfOk result (IsAnswerTo bundle.old pattern.now arguments.now) }
+    ensures kept { KeepsSame bundle.new bundle.old }
+    ensures taken { OnOk result (AreTaken arguments.now) }
+    ensures refused { IfErr result (AreRefusedFor arguments.now) }
+{
+    if arguments.len() > FEW {
+        return answer_to_many(alloc, bundle, pattern, arguments);
+    }
+    check_values(arguments)?;
+    let (id, attribute) = named(pattern);
+    let question = Question::Write {
+        place: pattern.number,
+        id,
+        attribute,
+        arguments: Given::new(arguments),
+    };
+    Ok(bundle.ask(alloc, &question))
+}
+
+/// The same for many arguments, which are put in the order of their names.
+///
+/// # Errors
+/// Those of [`answer_to`].
+fn answer_to_many<'a>(
+    alloc: Global,
+    bundle: &mut FluentBundle,
+    pattern: &FluentPattern<'a>,
+    arguments: &[FluentArgument<'a>],
+) -> Result<Option<Answer>, ArgumentRefusal>
+    requires { ArePromised pattern.now arguments.now }
+    ensures answer { IfOk result (IsAnswerTo bundle.old pattern.now arguments.now) }
+    ensures kept { KeepsSame bundle.new bundle.old }
+    ensures taken { OnOk result (AreTaken arguments.now) }
+    ensures refused { IfErr result (AreRefusedFor arguments.now) }
+{
+    let (id, attribute) = named(pattern);
+    let question = Question::Call {
+        id,
+        attribute,
+        arguments: arguments_of(alloc, arguments)?,
+        answers: FluentArgs::new(alloc),
+        spare: Cell::new(String::new(alloc)),
+    };
+    Ok(bundle.ask(alloc, &question))
 }
 
 /// Why the text of a reply isn't written.
@@ -176,18 +237,11 @@ pub extern "C" fn fluent_bundle_write<'a>(
         → (room.new ≡ room.old) × HoldsSame errors.new errors.old }
     ensures same_len { HasNoLen result → len.new ≡ len.old }
 {
-    let arguments = match promised_arguments(alloc, arguments) {
-        Ok(arguments) => arguments,
+    let answer = match answer_to(alloc, bundle, pattern, arguments) {
+        Ok(answer) => answer,
         Err(refusal) => return status_of(refusal),
     };
-    let (id, attribute) = named(pattern);
-    let question = Question::Write {
-        place: pattern.number,
-        id,
-        attribute,
-        arguments,
-    };
-    match bundle.ask(alloc, &question) {
+    match answer {
         Some(Answer::Reply(reply)) => match write_out(alloc, &reply, room, len, errors) {
             Ok(()) => FLUENT_READ,
             Err(Unwritten::NoRoom) => FLUENT_NO_ROOM,

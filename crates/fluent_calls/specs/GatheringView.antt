@@ -10,7 +10,7 @@ use Rattle.fluent_ast.specs.declared.Pattern.{Pattern}
 use Rattle.fluent_grammar.specs.Tree as t
 use Rattle.fluent_grammar.specs.Words.{Text}
 use Rattle.fluent_meaning.specs.Steps.{Budget}
-use Rattle.fluent_progress.specs.Views.{args_or_none, given_args, path_of, resolved_in, state}
+use Rattle.fluent_progress.specs.Views.{arguments_of, path_of, resolved_in, state}
 use Rattle.fluent_progress.specs.declared.context.Context.{Ghosts as Context}
 use Rattle.fluent_progress.specs.declared.place.Surroundings.{Surroundings}
 use Rattle.fluent_progress.specs.declared.progress.Progress.{Progress}
@@ -50,7 +50,7 @@ GivesValues result values = IfOk result (λ given. option_map (λ vs. plain_all 
 module _ {E : Type 0} {c : Custom DateTimeValue FluentDateTime} {e : Context E DateTimeValue Callee FluentDateTime} {v : Scope E DateTimeValue FluentDateTime} (place : Surroundings DateTimeValue Callee E FluentDateTime c e v) where
   -- the arguments of the request
   abbrev pub arguments_in : List (Text × Value FluentDateTime)
-  arguments_in = args_or_none c.meaning (given_args c.meaning place.arguments)
+  arguments_in = arguments_of place
 
   module _ (answers : FluentArgs DateTimeValue) where
     -- what a call gives, if it is known, and the call itself if it has no answer

@@ -39,26 +39,26 @@ module _ (env : Environment FluentDateTime Callee) where
   IsOutcome id attribute arguments table (Some outcome) = IsSomeAnd (pattern_asked attribute (env.find id))
       (λ elements. ComesTo env.find (answer_written env arguments elements) table outcome)
 
-  -- the same for the code's name, arguments and answers
-  abbrev pub IsOutcomeOf : Text → Option (Bor Text) → FluentArgs DateTimeValue → FluentArgs DateTimeValue → Option Outcome → Type 0
-  IsOutcomeOf id attribute arguments answers outcome = IsOutcome id (option_copied attribute) (dated_view arguments) (dated_view answers) outcome
+  -- the same for the code's name and answers
+  abbrev pub IsOutcomeOf : Text → Option (Bor Text) → Table → FluentArgs DateTimeValue → Option Outcome → Type 0
+  IsOutcomeOf id attribute arguments answers outcome = IsOutcome id (option_copied attribute) arguments (dated_view answers) outcome
 
 -- By what a plural source means, what functions give to a call that has no answer, and what a desk has.
 module _ {M : Type 0} (category_of : M → Plurals) (otherwise : Functions) (made : FunctionDesk M) where
   -- what a message comes to
-  abbrev pub Formats : Text → Option (Bor Text) → FluentArgs DateTimeValue → FluentArgs DateTimeValue → Option Outcome → Type 0
+  abbrev pub Formats : Text → Option (Bor Text) → Table → FluentArgs DateTimeValue → Option Outcome → Type 0
   Formats id attribute arguments answers outcome =
       IsOutcomeOf (desk_environment category_of otherwise made (dated_view answers)) id attribute arguments answers outcome
 
-  -- the same of the code's pattern
-  abbrev pub Resolves : FluentArgs DateTimeValue → FluentArgs DateTimeValue → Pattern (Bor Text) → Outcome → Type 0
+  -- the same of the code's pattern, with these arguments
+  abbrev pub Resolves : Table → FluentArgs DateTimeValue → Pattern (Bor Text) → Outcome → Type 0
   Resolves arguments answers pattern outcome = ComesTo (find (desk_ids made.desk))
-      (answer_written (desk_environment category_of otherwise made (dated_view answers)) (dated_view arguments) (elements_of pattern)) (dated_view answers) outcome
+      (answer_written (desk_environment category_of otherwise made (dated_view answers)) arguments (elements_of pattern)) (dated_view answers) outcome
 
   -- what the code's pattern gives without answers to calls
-  abbrev pub Writes : FluentArgs DateTimeValue → Pattern (Bor Text) → Reply → Type 0
+  abbrev pub Writes : Table → Pattern (Bor Text) → Reply → Type 0
   Writes arguments pattern reply = reply_view reply
-      ≡ told (answer_written (desk_environment category_of otherwise made []) (dated_view arguments) (elements_of pattern))
+      ≡ told (answer_written (desk_environment category_of otherwise made []) arguments (elements_of pattern))
 
   -- what a message gives without answers to calls
   abbrev pub Replies : Text → Option (Bor Text) → FluentArgs DateTimeValue → Option Reply → Type 0

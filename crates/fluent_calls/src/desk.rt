@@ -12,7 +12,7 @@ use crate::gathering::gather_pattern;
 use crate::otherwise::Otherwise;
 use fluent_ast::Pattern;
 use fluent_dates::{DateTimeValue, LocaleDates};
-use fluent_progress::Surroundings;
+use fluent_progress::{Lookup, Surroundings, WithArguments};
 use fluent_resource::FluentResource;
 use fluent_run::{Dating, Desk, Reply, Settings, resolve};
 use fluent_text::stack::StackBudget;
@@ -82,22 +82,23 @@ impl<'b, 'r, 's, M: MemoizerKind> FunctionDesk<'b, 'r, 's, M> {
     /// [`AllocError`] if memory runs out, or if calls and placeables nest so deep, over all
     /// messages that are entered, that they would take more of the machine's stack than the desk's
     /// budget; nothing is kept.
-    pub fn format<K: Otherwise>(
+    pub fn format<K: Otherwise, A: Lookup<DateTimeValue>>(
         &self,
         alloc: Global,
         id: &str,
         attribute: Option<&str>,
-        arguments: &FluentArgs<'_, DateTimeValue>,
+        arguments: &A,
         answers: &FluentArgs<'_, DateTimeValue>,
         text: String,
     ) -> Result<Option<Outcome>, AllocError>
         ensures { IfOk result
-            (Formats M.category_of K.otherwise self.now id.now attribute.entry arguments.now answers.now) }
+            (Formats M.category_of K.otherwise self.now id.now attribute.entry
+                (A.arguments arguments.now) answers.now) }
     {
         let Some(pattern) = self.desk.pattern_named(id, attribute) else {
             return Ok(None);
         };
-        let outcome = self.outcome_of::<K>(alloc, pattern, arguments, answers, text)?;
+        let outcome = self.outcome_of::<K, A>(alloc, pattern, arguments, answers, text)?;
         Ok(Some(outcome))
     }
 
@@ -150,7 +151,7 @@ impl<'b, 'r, 's, M: MemoizerKind> FunctionDesk<'b, 'r, 's, M> {
         let Some(pattern) = found else {
             return Ok(None);
         };
-        Ok(Some(self.write::<K>(alloc, pattern, arguments, text)?))
+        Ok(Some(self.write::<K, FluentArgs<'_, DateTimeValue>>(alloc, pattern, arguments, text)?))
     }
 
     /// What a pattern gives for these arguments, if it meets no call of a function of the program.
@@ -158,18 +159,18 @@ impl<'b, 'r, 's, M: MemoizerKind> FunctionDesk<'b, 'r, 's, M> {
     ///
     /// # Errors
     /// Those of [`format`](Self::format), and [`AllocError`] if it meets such a call.
-    pub fn write<K: Otherwise>(
+    pub fn write<K: Otherwise, A: Lookup<DateTimeValue>>(
         &self,
         alloc: Global,
         pattern: &'r Pattern<&'s str>,
-        arguments: &FluentArgs<'_, DateTimeValue>,
+        arguments: &A,
         text: String,
     ) -> Result<Reply, AllocError>
         ensures { IfOk result
-            (Writes M.category_of K.otherwise self.now arguments.now pattern.now) }
+            (Writes M.category_of K.otherwise self.now (A.arguments arguments.now) pattern.now) }
     {
         let answers = FluentArgs::new(alloc);
-        match self.outcome_of::<K>(alloc, pattern, arguments, &answers, text)? {
+        match self.outcome_of::<K, A>(alloc, pattern, arguments, &answers, text)? {
             Outcome::Text(reply) => Ok(reply),
             Outcome::Call(_) => Err(AllocError),
         }
@@ -212,16 +213,16 @@ impl<'b, 'r, 's, M: MemoizerKind> FunctionDesk<'b, 'r, 's, M> {
     }
 
     /// What a pattern comes to for these arguments, with these answers.
-    fn outcome_of<'x, K: Otherwise>(
+    fn outcome_of<'x, K: Otherwise, A: Lookup<DateTimeValue>>(
         &'x self,
         alloc: Global,
         pattern: &'r Pattern<&'s str>,
-        arguments: &'x FluentArgs<'_, DateTimeValue>,
+        arguments: &'x A,
         answers: &'x FluentArgs<'_, DateTimeValue>,
         text: String,
     ) -> Result<Outcome, AllocError>
         ensures { IfOk result
-            (Resolves M.category_of K.otherwise self.now arguments.now answers.now pattern.now) }
+            (Resolves M.category_of K.otherwise self.now (A.arguments arguments.now) answers.now pattern.now) }
     {
         let calls: Calls<'_, '_, K> = Calls {
             functions: self.functions,
@@ -229,7 +230,7 @@ impl<'b, 'r, 's, M: MemoizerKind> FunctionDesk<'b, 'r, 's, M> {
             missing: Cell::new(None),
             otherwise: PhantomData,
         };
-        let context = Dating {
+        let dating = Dating {
             settings: self.desk.settings,
             dates: self.dates,
             plurals: self.desk.plurals,
@@ -237,12 +238,16 @@ impl<'b, 'r, 's, M: MemoizerKind> FunctionDesk<'b, 'r, 's, M> {
             stack: self.desk.stack,
             alloc,
         };
-        let locals: Option<&'x FluentArgs<'s, DateTimeValue>> = None;
+        let context = WithArguments {
+            context: &dating,
+            arguments,
+        };
+        let none: Option<&'x FluentArgs<'s, DateTimeValue>> = None;
         let place = Surroundings {
             ids: &self.desk.ids,
             context: &context,
-            arguments: Some(arguments),
-            locals,
+            arguments: none,
+            locals: none,
         };
         match resolve(&place, pattern, text, self.desk.stack) {
             Ok(reply) => Ok(Outcome::Text(reply)),

@@ -27,7 +27,7 @@ use fluent_ast::{
 use fluent_dates::{DATETIME, DateTimeValue};
 use fluent_ids::Entry;
 use fluent_progress::text::literal_value;
-use fluent_progress::{Context, Progress, Surroundings};
+use fluent_progress::{Context, Lookup, Progress, Surroundings};
 use fluent_resolver::pattern::write_opened;
 use fluent_text::stack::{Stack, StackBudget, resolving};
 use fluent_value::{FluentArgs, FluentValue, builtins};
@@ -210,11 +210,11 @@ fn argument<'b, 'r, 's, 'a, E: Context<DateTimeValue, Callee>>(
         ≡ unwrap_or (argument_of (name_of id.now) (arguments_in place.now)) error) }
 {
     let given = match place.arguments {
-        Some(arguments) => arguments.get(id.name),
-        None => None,
+        Some(arguments) => arguments.argument_copy(place.context.alloc(), id.name)?,
+        None => place.context.given_copy(id.name)?,
     };
     match given {
-        Some(value) => value.into_owned(place.context.alloc()),
+        Some(value) => Ok(value),
         None => Ok(FluentValue::Error),
     }
 }

@@ -34,12 +34,12 @@ call-said None is = absurd is
 call-said (Some es) is = (refl, is)
 
 -- the answer of a desk with functions is that of the catalog, whose messages call them
-pub called-as : (catalog : Catalog) (functions : Option (List Text)) (desk : FunctionDesk LanguagePlurals) (id : Text) (attribute : Option (Bor Text)) (arguments answers : FluentArgs DateTimeValue) (answer : Answer) →
-    IsSomeAnd functions (λ names. CallsAs names catalog desk) → IsCalledTo desk id attribute arguments answers answer →
-    IsReplyOrCall (catalog_environment catalog) (option_map (λ names. catalog_calling_by catalog names (dated_view answers)) functions) id (option_copied attribute) (dated_view arguments) (dated_view answers) answer
-called-as catalog None desk id attribute arguments answers answer calls is = absurd calls
-called-as catalog (Some names) desk id attribute arguments answers answer calls is =
-    subst (λ env. IsCalled env id (option_copied attribute) (dated_view arguments) (dated_view answers) answer) (calls (dated_view answers)) is
+pub called-as : (catalog : Catalog) (functions : Option (List Text)) (desk : FunctionDesk LanguagePlurals) (id : Text) (attribute : Option (Bor Text)) (args : List (Text × Value FluentDateTime)) (answers : FluentArgs DateTimeValue) (answer : Answer) →
+    IsSomeAnd functions (λ names. CallsAs names catalog desk) → IsCalledTo desk id attribute args answers answer →
+    IsReplyOrCall (catalog_environment catalog) (option_map (λ names. catalog_calling_by catalog names (dated_view answers)) functions) id (option_copied attribute) args (dated_view answers) answer
+called-as catalog None desk id attribute args answers answer calls is = absurd calls
+called-as catalog (Some names) desk id attribute args answers answer calls is =
+    subst (λ env. IsCalled env id (option_copied attribute) args (dated_view answers) answer) (calls (dated_view answers)) is
 
 -- the same of the calls that are gathered of a message
 pub met-as : (catalog : Catalog) (functions : Option (List Text)) (desk : FunctionDesk LanguagePlurals) (id : Text) (attribute : Option (Bor Text)) (arguments answers : FluentArgs DateTimeValue) (answer : Answer) →

@@ -11,4 +11,6 @@ mod HandleMade
 mod Crossing
 mod Messages
 mod Written
+mod LastNamed
+mod KeptTexts
 pub mod OneTree

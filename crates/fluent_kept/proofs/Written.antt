@@ -1,5 +1,5 @@
 -- What is given by a message that was found is what is given by its id.
-use Rattle.std.proofs.Common.{◌≡◌, ◌∙◌, true, [], Option, None, Some, ap, inl, inr, sym, subst}
+use Rattle.std.proofs.Common.{◌≡◌, ◌∙◌, true, List, [], Option, None, Some, ap, inl, inr, sym, subst}
 use Rattle.std.specs.Prelude.{All, is_some, option_copied, option_map, vec_items}
 use Rattle.std.proofs.lemmas.List.Elements.{All-contains, All-push}
 use denote.Ref.{Bor}
@@ -10,8 +10,7 @@ use Rattle.fluent_grammar.specs.Words.{Text}
 use Rattle.fluent_ids.specs.Found.{message_in}
 use Rattle.fluent_meaning.specs.Environment.{Environment}
 use Rattle.fluent_meaning.specs.Substitution.{answer_written}
-use Rattle.fluent_run.specs.Dated.{dated_view}
-use Rattle.fluent_value.specs.declared.args.FluentArgs.{FluentArgs}
+use Rattle.fluent_value.specs.Value.{Value}
 use Rattle.fluent_kept.specs.Answers.{IsFound, IsReply, IsReplyOrCall, IsWrittenBy}
 use Rattle.fluent_kept.specs.Catalogs.{Catalog, IsMessageOf, catalog_calling, catalog_calling_by, catalog_environment}
 use Rattle.fluent_kept.specs.Found.{IsThereBy, Keeps, message_told, pattern_of}
@@ -21,19 +20,18 @@ use Rattle.fluent_kept.specs.declared.question.Answer.{Answer}
 use Rattle.fluent_kept.specs.declared.question.Answer.TheVariants as answer
 use Rattle.fluent_kept.proofs.Messages.{pattern-missing, pattern-there}
 use Rattle.fluent_date.specs.declared.date_time.FluentDateTime.{FluentDateTime}
-use Rattle.fluent_dates.specs.declared.value.DateTimeValue.{DateTimeValue}
 use Rattle.fluent_calls.specs.declared.callee.Callee.{Callee}
 
 -- the answer by a message that is the one asked for
-given-reply : (env : Environment FluentDateTime Callee) (id : Text) (attribute : Option (Bor Text)) (arguments : FluentArgs DateTimeValue) (m : t.Message) (given : Answer) →
-    message_in (env.find id) ≡ Some m → IsGivenBy env m attribute arguments given → IsReply env id (option_copied attribute) (dated_view arguments) given
+given-reply : (env : Environment FluentDateTime Callee) (id : Text) (attribute : Option (Bor Text)) (arguments : List (Text × Value FluentDateTime)) (m : t.Message) (given : Answer) →
+    message_in (env.find id) ≡ Some m → IsGivenBy env m attribute arguments given → IsReply env id (option_copied attribute) arguments given
 given-reply env id attribute arguments m answer.Memory there is = tt
 given-reply env id attribute arguments m answer.NoMessage there is = absurd is
 given-reply env id attribute arguments m answer.NoPattern there is =
     (ap is_some there, ap is_some (pattern-there (option_copied attribute) (env.find id) m there ∙ is))
 given-reply env id attribute arguments m answer.Found there is = absurd is
 given-reply env id attribute arguments m (answer.Reply reply) there is =
-    ap (option_map (λ es. told (answer_written env (dated_view arguments) es))) (pattern-there (option_copied attribute) (env.find id) m there) ∙ is
+    ap (option_map (λ es. told (answer_written env arguments es))) (pattern-there (option_copied attribute) (env.find id) m there) ∙ is
 given-reply env id attribute arguments m (answer.Call call) there is = absurd is
 given-reply env id attribute arguments m (answer.Names text) there is = absurd is
 given-reply env id attribute arguments m (answer.Report text) there is = absurd is
@@ -67,16 +65,16 @@ module _ (catalog : Catalog) (id : Text) (attribute : Option Text) where
   found-there m there has = ap is_some (pattern-there attribute (plain.find id) m there) ∙ has
 
 -- what is given where messages call no functions
-pub plain-given : (catalog : Catalog) (id : Text) (attribute : Option (Bor Text)) (arguments : FluentArgs DateTimeValue) (m : t.Message) (given : Answer) →
+pub plain-given : (catalog : Catalog) (id : Text) (attribute : Option (Bor Text)) (arguments : List (Text × Value FluentDateTime)) (m : t.Message) (given : Answer) →
     message_in ((catalog_environment catalog).find id) ≡ Some m → catalog.functions ≡ None → IsGivenBy (catalog_environment catalog) m attribute arguments given →
     IsWrittenBy (catalog_environment catalog) (catalog_calling catalog) id attribute arguments given
 plain-given catalog id attribute arguments m given there none is =
-    subst (λ f. IsReplyOrCall (catalog_environment catalog) (option_map (λ names. catalog_calling_by catalog names []) f) id (option_copied attribute) (dated_view arguments) [] given)
+    subst (λ f. IsReplyOrCall (catalog_environment catalog) (option_map (λ names. catalog_calling_by catalog names []) f) id (option_copied attribute) arguments [] given)
     (sym none) (given-reply (catalog_environment catalog) id attribute arguments m given there is)
 
-pub plain-none : (catalog : Catalog) (id : Text) (attribute : Option (Bor Text)) (arguments : FluentArgs DateTimeValue) →
+pub plain-none : (catalog : Catalog) (id : Text) (attribute : Option (Bor Text)) (arguments : List (Text × Value FluentDateTime)) →
     message_in ((catalog_environment catalog).find id) ≡ None → catalog.functions ≡ None →
     IsWrittenBy (catalog_environment catalog) (catalog_calling catalog) id attribute arguments answer.NoMessage
 plain-none catalog id attribute arguments missing none =
-    subst (λ f. IsReplyOrCall (catalog_environment catalog) (option_map (λ names. catalog_calling_by catalog names []) f) id (option_copied attribute) (dated_view arguments) [] answer.NoMessage)
+    subst (λ f. IsReplyOrCall (catalog_environment catalog) (option_map (λ names. catalog_calling_by catalog names []) f) id (option_copied attribute) arguments [] answer.NoMessage)
     (sym none) (ap is_some missing, ap is_some (pattern-missing (option_copied attribute) ((catalog_environment catalog).find id) missing))

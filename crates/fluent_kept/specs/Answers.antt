@@ -81,10 +81,10 @@ IsCalled env id attribute args table (answer.Call call) = IsSome (pattern_asked 
 IsCalled env id attribute args table (answer.Names text) = ⊥
 IsCalled env id attribute args table (answer.Report text) = ⊥
 
--- the same for the code's desk, name, arguments and answers
-abbrev pub IsCalledTo : FunctionDesk LanguagePlurals → Text → Option (Bor Text) → FluentArgs DateTimeValue → FluentArgs DateTimeValue → Answer → Type 0
-IsCalledTo desk id attribute arguments answers answer =
-    IsCalled (calling_in desk (dated_view answers)) id (option_copied attribute) (dated_view arguments) (dated_view answers) answer
+-- the same for the code's desk, name and answers
+abbrev pub IsCalledTo : FunctionDesk LanguagePlurals → Text → Option (Bor Text) → List (Text × Value FluentDateTime) → FluentArgs DateTimeValue → Answer → Type 0
+IsCalledTo desk id attribute args answers answer =
+    IsCalled (calling_in desk (dated_view answers)) id (option_copied attribute) args (dated_view answers) answer
 
 -- the same where messages may call functions, and a plain reply where they don't
 abbrev pub IsReplyOrCall : Environment FluentDateTime Callee → Option (Environment FluentDateTime Callee) → Text → Option Text → List (Text × Value FluentDateTime) → Table → Answer → Type 0
@@ -96,10 +96,9 @@ abbrev pub IsReplyOrCallTo : Environment FluentDateTime Callee → (Table → Op
 IsReplyOrCallTo env calling id attribute arguments answers answer =
     IsReplyOrCall env (calling (dated_view answers)) id (option_copied attribute) (dated_view arguments) (dated_view answers) answer
 
--- the same without answers to calls
-abbrev pub IsWrittenBy : Environment FluentDateTime Callee → (Table → Option (Environment FluentDateTime Callee)) → Text → Option (Bor Text) → FluentArgs DateTimeValue → Answer → Type 0
-IsWrittenBy env calling id attribute arguments answer =
-    IsReplyOrCall env (calling []) id (option_copied attribute) (dated_view arguments) [] answer
+-- the same without answers to calls, for the code's name
+abbrev pub IsWrittenBy : Environment FluentDateTime Callee → (Table → Option (Environment FluentDateTime Callee)) → Text → Option (Bor Text) → List (Text × Value FluentDateTime) → Answer → Type 0
+IsWrittenBy env calling id attribute args answer = IsReplyOrCall env (calling []) id (option_copied attribute) args [] answer
 
 -- the calls that are gathered of a message that may call functions, with these arguments, unless memory ran out
 abbrev pub AreMet : Environment FluentDateTime Callee → Text → Option Text → List (Text × Value FluentDateTime) → Table → Answer → Type 0

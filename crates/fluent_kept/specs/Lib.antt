@@ -1,3 +1,4 @@
+pub mod Given
 pub mod Found
 pub mod Catalogs
 pub mod Variables

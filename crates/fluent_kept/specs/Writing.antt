@@ -1,5 +1,5 @@
 -- What is written of a pattern that was looked up once.
-use Rattle.std.specs.Prelude.{◌≡◌, Option, None, Some, option_copied, option_map}
+use Rattle.std.specs.Prelude.{◌≡◌, List, Option, None, Some, option_copied, option_map}
 use denote.Ref.{Bor}
 use Rattle.fluent_answers.specs.Answers.{told}
 use Rattle.fluent_ast.specs.declared.Message.{Message}
@@ -8,9 +8,8 @@ use Rattle.fluent_grammar.specs.Words.{Text}
 use Rattle.fluent_ids.specs.Found.{message_in}
 use Rattle.fluent_meaning.specs.Environment.{Environment}
 use Rattle.fluent_meaning.specs.Substitution.{answer_written}
-use Rattle.fluent_run.specs.Dated.{dated_view}
 use Rattle.fluent_run.specs.ReplyView.{reply_view}
-use Rattle.fluent_value.specs.declared.args.FluentArgs.{FluentArgs}
+use Rattle.fluent_value.specs.Value.{Value}
 use Rattle.fluent_kept.specs.Answers.{IsFound, IsWrittenBy}
 use Rattle.fluent_kept.specs.Catalogs.{ForIts, IsDeskOf, catalog_calling, catalog_environment}
 use Rattle.fluent_kept.specs.Found.{message_told, pattern_of}
@@ -18,23 +17,22 @@ use Rattle.fluent_kept.specs.declared.desk.KeptDesk.{KeptDesk}
 use Rattle.fluent_kept.specs.declared.question.Answer.{Answer}
 use Rattle.fluent_kept.specs.declared.question.Answer.TheVariants as answer
 use Rattle.fluent_date.specs.declared.date_time.FluentDateTime.{FluentDateTime}
-use Rattle.fluent_dates.specs.declared.value.DateTimeValue.{DateTimeValue}
 use Rattle.fluent_calls.specs.declared.callee.Callee.{Callee}
 
 -- what a message gives for these arguments, unless memory ran out: its value, or its first attribute of a name
-abbrev pub IsGivenBy : Environment FluentDateTime Callee → t.Message → Option (Bor Text) → FluentArgs DateTimeValue → Answer → Type 0
+abbrev pub IsGivenBy : Environment FluentDateTime Callee → t.Message → Option (Bor Text) → List (Text × Value FluentDateTime) → Answer → Type 0
 IsGivenBy env m attribute arguments answer.Memory = Unit {0}
 IsGivenBy env m attribute arguments answer.NoMessage = ⊥
 IsGivenBy env m attribute arguments answer.NoPattern = pattern_of (option_copied attribute) m ≡ None
 IsGivenBy env m attribute arguments answer.Found = ⊥
 IsGivenBy env m attribute arguments (answer.Reply reply) =
-    option_map (λ es. told (answer_written env (dated_view arguments) es)) (pattern_of (option_copied attribute) m) ≡ Some (reply_view reply)
+    option_map (λ es. told (answer_written env arguments es)) (pattern_of (option_copied attribute) m) ≡ Some (reply_view reply)
 IsGivenBy env m attribute arguments (answer.Call call) = ⊥
 IsGivenBy env m attribute arguments (answer.Names text) = ⊥
 IsGivenBy env m attribute arguments (answer.Report text) = ⊥
 
 -- what a message gives without answers to calls, of whatever catalog a desk is one of
-abbrev pub IsWrittenOf : KeptDesk → Text → Option (Bor Text) → FluentArgs DateTimeValue → Answer → Type 0
+abbrev pub IsWrittenOf : KeptDesk → Text → Option (Bor Text) → List (Text × Value FluentDateTime) → Answer → Type 0
 IsWrittenOf desk id attribute arguments answer =
     ForIts desk (λ catalog. IsWrittenBy (catalog_environment catalog) (catalog_calling catalog) id attribute arguments answer)
 

@@ -16,6 +16,7 @@ use fluent_calls::{FunctionDesk, Outcome, Unanswered};
 use fluent_check::check_text;
 use fluent_dates::DateTimeValue;
 use fluent_plurals::LanguagePlurals;
+use fluent_progress::Lookup;
 use fluent_value::FluentArgs;
 use std::alloc::{AllocError, Global};
 
@@ -372,18 +373,18 @@ fn attributes_of(
 }
 
 /// What a message that may call functions gives for these arguments, with these answers to calls.
-pub(crate) fn called(
+pub(crate) fn called<A: Lookup<DateTimeValue>>(
     made: &FunctionDesk<'_, '_, '_, LanguagePlurals>,
     alloc: Global,
     id: &str,
     attribute: Option<&str>,
-    arguments: &FluentArgs<'_, DateTimeValue>,
+    arguments: &A,
     answers: &FluentArgs<'_, DateTimeValue>,
     spare: String,
 ) -> Answer
-    ensures { IsCalledTo made.now id.now attribute.entry arguments.now answers.now result }
+    ensures { IsCalledTo made.now id.now attribute.entry (A.arguments arguments.now) answers.now result }
 {
-    match made.format::<Unanswered>(alloc, id, attribute, arguments, answers, spare) {
+    match made.format::<Unanswered, A>(alloc, id, attribute, arguments, answers, spare) {
         Ok(Some(Outcome::Text(reply))) => Answer::Reply(reply),
         Ok(Some(Outcome::Call(call))) => Answer::Call(call),
         Ok(None) if made.desk.has_message(id) => Answer::NoPattern,

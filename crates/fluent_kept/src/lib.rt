@@ -8,6 +8,7 @@
 mod bundle;
 mod desk;
 mod found;
+mod given;
 mod handle;
 mod loose;
 mod patterns;
@@ -20,8 +21,26 @@ pub mod tree;
 mod variables;
 
 pub use bundle::Bundle;
+pub use given::{FluentArgument, Given, value_of};
 pub use handle::FluentBundle;
 pub use loose::RawBox;
 pub use question::{Answer, Question};
 pub use sources::Sources;
 pub use threads::bundles_are_send;
+
+/// The kind of an argument that is a text.
+pub const FLUENT_TEXT: u32 = 0;
+/// The kind of an argument that is a number, written as a decimal.
+pub const FLUENT_DECIMAL: u32 = 1;
+/// The kind of an argument that is a signed integer.
+pub const FLUENT_INTEGER: u32 = 2;
+/// The kind of an argument that is an unsigned integer.
+pub const FLUENT_UNSIGNED: u32 = 3;
+/// The kind of an argument that has no value, as a variable that is missing; of an answer to a
+/// call, that there is none.
+pub const FLUENT_NO_VALUE: u32 = 4;
+/// The kind of an argument that is a float: a decimal whose digits don't say how many are shown.
+pub const FLUENT_FLOAT: u32 = 5;
+/// The kind of an argument that is a date, with its time and the offset of its clock if it has
+/// them: a text as ISO 8601 has it, such as `2026-11-28` or `2026-11-28T20:15:00+01:00`.
+pub const FLUENT_DATETIME: u32 = 6;

@@ -9,10 +9,10 @@ ghost use Rattle.fluent_kept.specs.Found.{message_told, pattern_of};
 ghost use Rattle.fluent_kept.specs.Writing.{Finds, IsGivenBy, IsWrittenOf, KeepsFound};
 
 use crate::desk::{Desks, KeptDesk, called};
+use crate::given::Given;
 use crate::question::Answer;
 use fluent_ast::{Message, Pattern};
 use fluent_calls::{FunctionDesk, Unanswered};
-use fluent_dates::DateTimeValue;
 use fluent_ids::laws::attributes_agree;
 use fluent_ids::{Entry, FluentIds, FluentMessage};
 use fluent_plurals::LanguagePlurals;
@@ -80,7 +80,7 @@ impl<'r, 's> KeptDesk<'r, 's> {
         place: usize,
         id: &str,
         attribute: Option<&str>,
-        arguments: &FluentArgs<'_, DateTimeValue>,
+        arguments: &Given<'_>,
     ) -> Answer
         ensures { IsWrittenOf self.now id.now attribute.entry arguments.now result }
     {
@@ -132,7 +132,7 @@ fn replied<'r, 's>(
     alloc: Global,
     message: &'r Message<&'s str>,
     attribute: Option<&str>,
-    arguments: &FluentArgs<'_, DateTimeValue>,
+    arguments: &Given<'_>,
 ) -> Answer
     ensures { IsGivenBy (plain_environment made.now) (message_told message.entry) attribute.entry
         arguments.now result }
@@ -140,7 +140,7 @@ fn replied<'r, 's>(
     let Some(pattern) = pattern_in(message, attribute) else {
         return Answer::NoPattern;
     };
-    match made.write::<Unanswered>(alloc, pattern, arguments, String::new(alloc)) {
+    match made.write::<Unanswered, Given<'_>>(alloc, pattern, arguments, String::new(alloc)) {
         Ok(reply) => Answer::Reply(reply),
         Err(_) => Answer::Memory,
     }

@@ -1,5 +1,6 @@
 //! What a bundle is asked, and what it answers.
 
+use crate::given::Given;
 use fluent_dates::DateTimeValue;
 use fluent_run::Reply;
 use fluent_value::FluentArgs;
@@ -51,7 +52,7 @@ pub enum Question<'a> {
         place: usize,
         id: &'a str,
         attribute: Option<&'a str>,
-        arguments: FluentArgs<'a, DateTimeValue>,
+        arguments: Given<'a>,
     },
     /// The ids of the messages.
     Messages,

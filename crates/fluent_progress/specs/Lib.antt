@@ -1,5 +1,6 @@
 pub mod Braces
 pub mod Functions
+pub mod Given
 pub mod Views
 pub mod LentView
 pub mod Telling

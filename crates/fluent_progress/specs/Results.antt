@@ -36,11 +36,6 @@ module _ {S F : Type 0} (env : Environment S F) where
   function_result (Some (message m)) positional named = None
   function_result (Some (term m)) positional named = None
 
--- the text of a value that is there, and else nothing
-abbrev pub given_text : {S : Type 0} → (Value S → Text) → Option (Value S) → Text
-given_text shown None = []
-given_text shown (Some value) = shown value
-
 module _ {C S : Type 0} (meaning : C → S) where
   -- the pattern of the first variant whose key matches a value
   abbrev pub match_of : Plurals → FluentValue C → List (Variant (Bor Text)) → Option Elements

@@ -8,8 +8,8 @@ use Rattle.fluent_meaning.specs.Steps.{Budget, Done}
 use Rattle.fluent_meaning.specs.Substitution as s
 use Rattle.fluent_meaning.specs.Told.{after}
 use Rattle.fluent_progress.specs.Resolves.{FindsOnOk}
-use Rattle.fluent_progress.specs.Results.{given_text}
-use Rattle.fluent_progress.specs.Views.{args_or_none, given_args, place_view, resolved_in, state}
+use Rattle.fluent_progress.specs.Given.{given_text}
+use Rattle.fluent_progress.specs.Views.{arguments_of, given_args, place_view, resolved_in, state}
 use Rattle.fluent_progress.specs.declared.context.Context.{Ghosts as Context}
 use Rattle.fluent_progress.specs.declared.place.Surroundings.{Surroundings}
 use Rattle.fluent_progress.specs.declared.progress.Progress.{Progress}
@@ -37,10 +37,6 @@ module _ {C S : Type 0} (meaning : C → S) where
   abbrev pub argument_of : FluentArgs C → Text → Option (Value S)
   argument_of arguments id = argument id (args_view meaning arguments)
 
-  -- its text, or nothing if there is no such argument
-  abbrev pub argument_text : {F E : Type 0} → (E → Environment S F) → E → FluentArgs C → Text → Text
-  argument_text environment context arguments id = given_text (value_text (environment context)) (argument_of arguments id)
-
   -- on Ok the result is a copy of this value, if there is one
   abbrev pub Copies : {X : Type 0} → Result (Option (FluentValue C)) X → Option (Value S) → Type 0
   Copies result value = IfOk result (λ copy. option_map (value_view meaning) copy ≡ value)
@@ -48,7 +44,7 @@ module _ {C S : Type 0} (meaning : C → S) where
 module _ {C F E S : Type 0} {c : Custom C S} {e : Context E C F S} {v : Scope E C S} where
   -- the value of the variable of this name: inside a term one of the term's arguments, else one of the request's
   abbrev pub variable_of : Surroundings C F E S c e v → Text → Option (Value S)
-  variable_of place id = argument id (s.locals_or (args_or_none c.meaning (given_args c.meaning place.arguments)) (given_args c.meaning place.locals))
+  variable_of place id = argument id (s.locals_or (arguments_of place) (given_args c.meaning place.locals))
 
   -- its text, or nothing if there is no such variable
   abbrev pub variable_text : Surroundings C F E S c e v → Text → Text

@@ -65,15 +65,23 @@ module _ {C S : Type 0} (meaning : C → S) where
   abbrev pub given_args : Option (Bor (FluentArgs C)) → Option (List (Text × Value S))
   given_args args = option_map (λ a. args_view meaning a.now) args
 
+  -- or else these
+  abbrev pub args_or : List (Text × Value S) → Option (List (Text × Value S)) → List (Text × Value S)
+  args_or others None = others
+  args_or others (Some args) = args
+
   abbrev pub args_or_none : Option (List (Text × Value S)) → List (Text × Value S)
-  args_or_none None = []
-  args_or_none (Some args) = args
+  args_or_none args = args_or [] args
 
 module _ {C F E S : Type 0} {c : Custom C S} {e : Context E C F S} {v : Scope E C S} where
+  -- the arguments of the request: those that the place has, or else those of its context
+  abbrev pub arguments_of : Surroundings C F E S c e v → List (Text × Value S)
+  arguments_of place = args_or c.meaning (e.given place.context.now) (given_args c.meaning place.arguments)
+
   -- what is handed down
   abbrev pub place_view : Surroundings C F E S c e v → Progress → s.Surroundings S
   place_view place progress = record {
-    arguments = args_or_none c.meaning (given_args c.meaning place.arguments);
+    arguments = arguments_of place;
     locals = given_args c.meaning place.locals;
     path = path_of progress;
   }
@@ -81,7 +89,7 @@ module _ {C F E S : Type 0} {c : Custom C S} {e : Context E C F S} {v : Scope E 
   -- the same, while no pattern is being written
   abbrev pub start_of : Surroundings C F E S c e v → s.Surroundings S
   start_of place = record {
-    arguments = args_or_none c.meaning (given_args c.meaning place.arguments);
+    arguments = arguments_of place;
     locals = given_args c.meaning place.locals;
     path = [];
   }

@@ -1,11 +1,15 @@
 //! What patterns are resolved in.
 
-ghost use Rattle.std.specs.Prelude.{◌≡◌, Bool, false, IfOk, IsOkAnd};
+ghost use Rattle.std.specs.Prelude.{◌≡◌, ◌++◌, Bool, false, List, IfOk, IsOkAnd, OnOk, is_some, option_map, string_bytes};
 ghost use Rattle.std.specs.Cow.{cow_str_bytes, IsBorrowedStr};
+ghost use Rattle.fluent_grammar.specs.Words.{Text};
 ghost use Rattle.fluent_meaning.specs.Environment.{Environment, value_text};
 ghost use Rattle.fluent_progress.specs.Functions.{GivesResult};
+ghost use Rattle.fluent_progress.specs.Given.{given_text};
+ghost use Rattle.fluent_value.specs.Args.{argument};
 ghost use Rattle.fluent_value.specs.Shown.{shown_text};
 ghost use Rattle.fluent_value.specs.Value.{Value};
+ghost use Rattle.fluent_value.specs.View.{value_view};
 
 use fluent_ids::FunctionRef;
 use fluent_text::stack::StackBudget;
@@ -21,6 +25,10 @@ pub trait Context<C: FluentType, F>: ValueScope<C> {
 
     /// Whether a transform is set.
     ghost has_transform: { Self → Bool };
+
+    /// The arguments of a request that it has, in the order of their names. They count for a
+    /// request that brings none.
+    ghost given: { Self → List (Text × Value C.Meaning) };
 
     /// What a function gives for these values.
     ///
@@ -51,6 +59,25 @@ pub trait Context<C: FluentType, F>: ValueScope<C> {
 
     /// How much of the machine's stack resolving may take.
     fn stack_budget(&self) -> StackBudget;
+
+    /// Appends the text of the argument of a name that it has, if there is one, and says whether
+    /// there is.
+    ///
+    /// # Errors
+    /// [`AllocError`] if memory runs out; `out` may hold a part of the text.
+    fn write_given(&self, out: &mut String, name: &str) -> Result<bool, AllocError>
+        ensures found { IfOk result (λ is_there. is_there
+            ≡ is_some (argument name.now (given self.now))) }
+        ensures text { OnOk result (string_bytes out.new ≡ string_bytes out.old ++
+            given_text (value_text (environment self.now)) (argument name.now (given self.now))) };
+
+    /// A copy of the argument of a name that it has, which borrows nothing.
+    ///
+    /// # Errors
+    /// [`AllocError`] if memory runs out; nothing is kept.
+    fn given_copy<'v>(&self, name: &str) -> Result<Option<FluentValue<'v, C>>, AllocError>
+        ensures { IfOk result (λ copy. option_map (value_view C.meaning) copy
+            ≡ argument name.now (given self.now)) };
 
     /// A value is shown as its text.
     ghost shows: { (x : Self) (v : Value C.Meaning)

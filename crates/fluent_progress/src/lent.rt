@@ -1,7 +1,7 @@
 //! What is lent while a pattern is resolved, as what it is resolved in.
 
 ghost use Rattle.std.proofs.Common.{refl};
-ghost use Rattle.std.specs.Prelude.{is_some};
+ghost use Rattle.std.specs.Prelude.{[], is_some};
 ghost use Rattle.fluent_ids.specs.Settings.{formatted_by};
 ghost use Rattle.fluent_progress.specs.LentView.{lent_view};
 
@@ -113,6 +113,8 @@ where
 
     ghost has_transform = { λ lent. is_some lent.transform };
 
+    ghost given = { λ _. [] };
+
     fn call<'a, 'n>(
         &self,
         function: &FunctionRef<'_, F>,
@@ -138,6 +140,14 @@ where
 
     fn stack_budget(&self) -> StackBudget {
         StackBudget::PROGRAM
+    }
+
+    fn write_given(&self, _out: &mut String, _name: &str) -> Result<bool, AllocError> {
+        Ok(false)
+    }
+
+    fn given_copy<'v>(&self, _name: &str) -> Result<Option<FluentValue<'v, C>>, AllocError> {
+        Ok(None)
     }
 
     ghost shows = { λ _ _. refl };

@@ -17,6 +17,7 @@ where
 {
     pub ids: &'b FluentIds<'r, 's, F>,
     pub context: &'b E,
+    /// The arguments of the request; `None` if they are those that the context has.
     pub arguments: Option<&'b FluentArgs<'a, C>>,
     /// Inside a term its own arguments, which are then the only ones.
     pub locals: Option<&'b FluentArgs<'s, C>>,

@@ -4,13 +4,13 @@ ghost use Rattle.std.specs.Prelude.{◌≡◌, ◌∷◌, is_some, IfOk, OnErr};
 ghost use Rattle.fluent_grammar.specs.Words.{dollar};
 ghost use Rattle.fluent_meaning.specs.Fallback.{braced};
 ghost use Rattle.fluent_progress.specs.Resolves.{Appends, TellsOnErr, Writes};
-ghost use Rattle.fluent_progress.specs.Variables.{Copies, FindsVariable, ReportsMissing, argument_of, argument_text, variable_of, variable_step, variable_text, variable_value_step};
+ghost use Rattle.fluent_progress.specs.Variables.{Copies, FindsVariable, ReportsMissing, argument_of, variable_of, variable_step, variable_text, variable_value_step};
 ghost use Rattle.fluent_progress.specs.Views.{state};
 
 use crate::context::Context;
+use crate::lookup::{Lookup, write_named};
 use crate::place::Surroundings;
 use crate::progress::Progress;
-use crate::value::write_value;
 use fluent_ast::Identifier;
 use fluent_errors::{ReferenceKind, ResolverError};
 use fluent_value::{FluentArgs, FluentType, FluentValue};
@@ -23,26 +23,6 @@ fn write_name(out: &mut String, id: &str) -> Result<(), AllocError>
     out.push_str("{$")?;
     out.push_str(id)?;
     out.push_str("}")
-}
-
-/// Writes the value of an argument of this name if there is one, and answers whether there is.
-fn write_argument<C: FluentType, F, E: Context<C, F>>(
-    out: &mut String,
-    context: &E,
-    arguments: &FluentArgs<'_, C>,
-    id: &str,
-) -> Result<bool, AllocError>
-    ensures given { IfOk result (λ is_given. is_given ≡ is_some (argument_of C.meaning arguments.now id.now)) }
-    ensures text { Appends result out.old out.new
-        (argument_text C.meaning E.environment context.now arguments.now id.now) }
-{
-    match arguments.get(id) {
-        Some(value) => {
-            write_value(out, context, value)?;
-            Ok(true)
-        }
-        None => Ok(false),
-    }
 }
 
 /// A copy of the argument of this name, in which a borrowed text stays borrowed.
@@ -59,20 +39,6 @@ fn copied<'v, C: FluentType>(
     }
 }
 
-/// A copy of the argument of this name, which borrows nothing.
-fn owned<'v, C: FluentType>(
-    alloc: Global,
-    arguments: &FluentArgs<'_, C>,
-    id: &str,
-) -> Result<Option<FluentValue<'v, C>>, AllocError>
-    ensures { Copies C.meaning result (argument_of C.meaning arguments.now id.now) }
-{
-    match arguments.get(id) {
-        Some(value) => Ok(Some(value.into_owned(alloc)?)),
-        None => Ok(None),
-    }
-}
-
 impl<'b, 'r, 's, 'a, C: FluentType, F, E: Context<C, F>> Surroundings<'b, 'r, 's, 'a, C, F, E> {
     /// Writes the value of a variable if it has one, inside a term that of one of its arguments,
     /// else that of one of the request's, and answers whether it has one.
@@ -81,9 +47,9 @@ impl<'b, 'r, 's, 'a, C: FluentType, F, E: Context<C, F>> Surroundings<'b, 'r, 's
         ensures text { Appends result out.old out.new (variable_text self.now id.now) }
     {
         match (self.locals, self.arguments) {
-            (Some(locals), _) => write_argument(out, self.context, locals, id),
-            (None, Some(arguments)) => write_argument(out, self.context, arguments, id),
-            (None, None) => Ok(false),
+            (Some(locals), _) => write_named(out, self.context, locals, id),
+            (None, Some(arguments)) => write_named(out, self.context, arguments, id),
+            (None, None) => self.context.write_given(out, id),
         }
     }
 
@@ -95,8 +61,8 @@ impl<'b, 'r, 's, 'a, C: FluentType, F, E: Context<C, F>> Surroundings<'b, 'r, 's
         let alloc = self.context.alloc();
         match (self.locals, self.arguments) {
             (Some(locals), _) => copied(alloc, locals, id),
-            (None, Some(arguments)) => owned(alloc, arguments, id),
-            (None, None) => Ok(None),
+            (None, Some(arguments)) => arguments.argument_copy(alloc, id),
+            (None, None) => self.context.given_copy(id),
         }
     }
 

@@ -1,6 +1,6 @@
 //! What calls the functions of messages, and what patterns are resolved in with it.
 
-ghost use Rattle.std.specs.Prelude.{false, IfOk, is_some, List};
+ghost use Rattle.std.specs.Prelude.{[], false, IfOk, is_some, List};
 ghost use Rattle.std.proofs.Common.{refl};
 ghost use Rattle.fluent_grammar.specs.Words.{Text};
 ghost use Rattle.fluent_value.specs.CallResult.{IsCallResult};
@@ -135,6 +135,8 @@ impl<'x, 'b, 'r, 's, M: MemoizerKind, F, L: Caller<NoCustom, F>> Context<NoCusto
 
     ghost has_transform = { λ _. false };
 
+    ghost given = { λ _. [] };
+
     fn call<'a, 'n>(
         &self,
         function: &FunctionRef<'_, F>,
@@ -159,6 +161,17 @@ impl<'x, 'b, 'r, 's, M: MemoizerKind, F, L: Caller<NoCustom, F>> Context<NoCusto
 
     fn stack_budget(&self) -> StackBudget {
         self.desk.stack
+    }
+
+    fn write_given(&self, _out: &mut String, _name: &str) -> Result<bool, AllocError> {
+        Ok(false)
+    }
+
+    fn given_copy<'v>(
+        &self,
+        _name: &str,
+    ) -> Result<Option<FluentValue<'v, NoCustom>>, AllocError> {
+        Ok(None)
     }
 
     ghost shows = { λ _ _. refl };

@@ -146,6 +146,8 @@ impl<'p, 'x, M: MemoizerKind, F, L: Caller<DateTimeValue, F>> Context<DateTimeVa
 
     ghost has_transform = { λ _. false };
 
+    ghost given = { λ _. [] };
+
     fn call<'a, 'n>(
         &self,
         function: &FunctionRef<'_, F>,
@@ -170,6 +172,17 @@ impl<'p, 'x, M: MemoizerKind, F, L: Caller<DateTimeValue, F>> Context<DateTimeVa
 
     fn stack_budget(&self) -> StackBudget {
         self.stack
+    }
+
+    fn write_given(&self, _out: &mut String, _name: &str) -> Result<bool, AllocError> {
+        Ok(false)
+    }
+
+    fn given_copy<'v>(
+        &self,
+        _name: &str,
+    ) -> Result<Option<FluentValue<'v, DateTimeValue>>, AllocError> {
+        Ok(None)
     }
 
     ghost shows = { λ _ _. refl };

@@ -4,7 +4,8 @@ use Rattle.std.proofs.lemmas.List.Sorted.{All-permutation, IsPermutation-sym}
 use Rattle.std.proofs.lemmas.Result.{IfErr-weaker, IfOk-weaker, on_ok_weaker}
 use Rattle.fluent_run.specs.Dated.{dated_view}
 use Rattle.fluent_value.specs.Args.{all_set}
-use Rattle.fluent_c.specs.Arguments.{AreRefusedFor, IsTaken, pair_of}
+use Rattle.fluent_c.specs.Arguments.{AreRefusedFor, IsTaken}
+use Rattle.fluent_kept.specs.Given.{pair_of}
 use Rattle.fluent_c.proofs.Given.{before_the_first, refused_on, same_refused}
 use Rattle.fluent_c.proofs.InOrder.{sets_sorted}
 use Rattle.fluent_c.proofs.arguments.arguments_of.Goals as goal

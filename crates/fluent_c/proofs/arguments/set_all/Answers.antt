@@ -3,7 +3,8 @@ use Rattle.std.proofs.lemmas.List.{take_all}
 use Rattle.std.proofs.lemmas.List.Elements.{All-more, Contains-get_or}
 use Rattle.fluent_run.specs.Dated.{dated_view}
 use Rattle.fluent_value.specs.Args.{all_set}
-use Rattle.fluent_c.specs.Arguments.{AreRefusedFor, AreTaken, IsTaken, pair_of}
+use Rattle.fluent_c.specs.Arguments.{AreRefusedFor, AreTaken, IsTaken}
+use Rattle.fluent_kept.specs.Given.{pair_of}
 use Rattle.fluent_c.proofs.Given.{refused_on, set-next}
 use Rattle.fluent_c.proofs.arguments.set_all.Goals as goal
 

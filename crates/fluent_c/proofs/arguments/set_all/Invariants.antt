@@ -2,7 +2,8 @@
 use Rattle.std.proofs.Common.{◌≡◌, [], map, take}
 use Rattle.fluent_run.specs.Dated.{dated_view}
 use Rattle.fluent_value.specs.Args.{all_set}
-use Rattle.fluent_c.specs.Arguments.{AreTaken, pair_of}
+use Rattle.fluent_c.specs.Arguments.{AreTaken}
+use Rattle.fluent_kept.specs.Given.{pair_of}
 use Rattle.fluent_c.proofs.arguments.set_all.Given as goal
 
 abbrev pub invariant-loop-argument : goal.invariant-loop-argument

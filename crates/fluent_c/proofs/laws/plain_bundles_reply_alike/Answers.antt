@@ -1,7 +1,7 @@
 use Rattle.std.proofs.Common.{ap, map}
 use Rattle.std.specs.Prelude.{option_map}
 use Rattle.fluent_kept.specs.Catalogs.{catalog_calling_by, catalog_environment}
-use Rattle.fluent_c.specs.Arguments.{pair_of}
+use Rattle.fluent_kept.specs.Given.{pair_of}
 use Rattle.fluent_c.specs.Bundles.{attribute_in}
 use Rattle.fluent_c.specs.Calling.{answers_of, reply_by}
 use Rattle.fluent_c.proofs.laws.plain_bundles_reply_alike.Goals as goal

@@ -8,8 +8,8 @@ use Rattle.fluent_kept.proofs.Calling.{reply-said}
 use Rattle.fluent_kept.proofs.desk.called.Goals as goal
 
 pub returns-in-Ok-Some-Text : goal.returns-in-Ok-Some-Text
-returns-in-Ok-Some-Text c =
+returns-in-Ok-Some-Text g c =
     let env = calling_in c.args.made.now (dated_view c.args.answers.now) in
     let it = c.in-Ok-Some-Text in
-    reply-said env (dated_view c.args.arguments.now) (pattern_asked (option_copied c.args.attribute) (env.find c.args.id.now)) it.reply
-    (subst (λ outcome. IsOutcomeOf env c.args.id.now c.args.attribute c.args.arguments.now c.args.answers.now outcome) (it.field-0-is ∙ ap Some it.field-0-0-is) it.ensures)
+    reply-said env (g.A.Lookup.arguments c.args.arguments.now) (pattern_asked (option_copied c.args.attribute) (env.find c.args.id.now)) it.reply
+    (subst (λ outcome. IsOutcomeOf env c.args.id.now c.args.attribute (g.A.Lookup.arguments c.args.arguments.now) c.args.answers.now outcome) (it.field-0-is ∙ ap Some it.field-0-0-is) it.ensures)

@@ -13,7 +13,7 @@ pub returns-in-Text : goal.returns-in-Text
 returns-in-Text g c =
     let args = c.args in
     let written = λ (table : Table).
-    answer_written (desk_environment g.M.MemoizerKind.category_of g.K.Otherwise.otherwise args.self.now table) (dated_view args.arguments.now) (elements_of args.pattern.now) in
+    answer_written (desk_environment g.M.MemoizerKind.category_of g.K.Otherwise.otherwise args.self.now table) (g.A.Lookup.arguments args.arguments.now) (elements_of args.pattern.now) in
     done-told (written (dated_view c.new-answers.result)) c.in-Text.reply
-    (subst (Resolves g.M.MemoizerKind.category_of g.K.Otherwise.otherwise args.self.now args.arguments.now c.new-answers.result args.pattern.now) c.in-Text.is c.in_ok-reply.ensures)
+    (subst (Resolves g.M.MemoizerKind.category_of g.K.Otherwise.otherwise args.self.now (g.A.Lookup.arguments args.arguments.now) c.new-answers.result args.pattern.now) c.in-Text.is c.in_ok-reply.ensures)
     ∙ ap (λ table. told (written table)) c.new-answers.ensures

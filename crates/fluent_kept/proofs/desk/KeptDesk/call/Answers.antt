@@ -17,4 +17,4 @@ returns-in-Plain c = λ catalog is.
 pub returns-in-Calling : goal.returns-in-Calling
 returns-in-Calling c = λ catalog is.
     let desks = subst (AreDesksOf catalog) c.in-Calling.is is.desks in
-    called-as catalog catalog.functions c.in-Calling.desk c.args.id.now c.args.attribute c.args.arguments.now c.args.answers.now c.called.result desks.0 c.called.ensures
+    called-as catalog catalog.functions c.in-Calling.desk c.args.id.now c.args.attribute (dated_view c.args.arguments.now) c.args.answers.now c.called.result desks.0 c.called.ensures

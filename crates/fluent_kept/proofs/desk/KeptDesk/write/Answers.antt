@@ -1,5 +1,4 @@
 use Rattle.std.proofs.Common.{option_copied, subst, sym}
-use Rattle.fluent_run.specs.Dated.{dated_view}
 use Rattle.fluent_kept.specs.Answers.{IsReplyOrCall}
 use Rattle.fluent_kept.specs.Catalogs.{AreDesksOf, catalog_calling, catalog_environment}
 use Rattle.fluent_kept.specs.Found.{message_told}
@@ -20,6 +19,6 @@ pub returns-in-Calling : goal.returns-in-Calling
 returns-in-Calling c = λ catalog is.
     let args = c.args in
     let desks = subst (AreDesksOf catalog) c.in-Calling.is is.desks in
-    subst (λ table. IsReplyOrCall (catalog_environment catalog) (catalog_calling catalog table) args.id.now (option_copied args.attribute) (dated_view args.arguments.now) table c.called.result)
+    subst (λ table. IsReplyOrCall (catalog_environment catalog) (catalog_calling catalog table) args.id.now (option_copied args.attribute) args.arguments.now table c.called.result)
     c.new-answers.ensures
     (called-as catalog catalog.functions c.in-Calling.made args.id.now args.attribute args.arguments.now c.new-answers.result c.called.result desks.0 c.called.ensures)
