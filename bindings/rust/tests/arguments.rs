@@ -1,6 +1,6 @@
 //! Arguments in any number and order, set once and again: each message shows those that were set last.
 
-use kozhvadi::types::{FluentNumber, FluentNumberOptions};
+use kozhvadi::types::{FluentNumber, FluentNumberOptions, FluentNumberStyle};
 use kozhvadi::{FluentArgs, FluentBundle, FluentResource, FluentValue};
 use std::borrow::Cow;
 use std::collections::BTreeMap;
@@ -118,4 +118,32 @@ fn threads_share_arguments_that_are_sent() {
             scope.spawn(move || assert_eq!(text(bundle, &args), expected(set)));
         }
     });
+}
+
+#[test]
+fn arguments_change_after_they_were_asked_for() {
+    let bundle = bundle();
+    let percent = FluentNumberOptions { style: FluentNumberStyle::Percent, ..FluentNumberOptions::default() };
+    let mut args = FluentArgs::new();
+    args.set("z".to_owned(), "Z".to_owned());
+    args.set("a".to_owned(), 1.5);
+    for (value, shown) in [
+        (FluentValue::from(5), "5"),
+        (FluentNumber::new(0.5, percent).into(), "50%"),
+        ("Jane".into(), "Jane"),
+        (FluentValue::Error, ""),
+        (1e300.into(), "1000000"),
+    ] {
+        args.set("n", value);
+        for _ in 0..3 {
+            let (text, errors) = text(&bundle, &args);
+            let (before, after) = (text.split('|').next(), text.split('|').nth(3));
+            assert_eq!((before, errors), (Some("1.5"), 5), "{text}");
+            assert!(after.is_some_and(|after| after.starts_with(shown)), "{text}");
+        }
+        // What is kept goes along.
+        args = std::thread::spawn(move || args).join().expect("It ends.");
+    }
+    let names: Vec<&str> = args.iter().map(|(name, _)| name).collect();
+    assert_eq!(names, ["a", "n", "z"]);
 }
