@@ -5,7 +5,10 @@ use kozhvadi::{FluentArgs, FluentBundle, FluentResource, FluentValue};
 use std::borrow::Cow;
 use std::collections::BTreeMap;
 
-const NAMES: [&str; 10] = ["count", "name", "a", "z", "b", "sender", "", "é", "name2", "n"];
+const NAMES: [&str; 20] = [
+    "count", "name", "a", "z", "b", "sender", "", "é", "name2", "n", "k", "nam", "c", "y", "na", "x", "d", "m", "w",
+    "e",
+];
 
 /// A bundle whose message shows all names but the empty one, which no message has.
 fn bundle() -> FluentBundle {
@@ -65,9 +68,9 @@ impl Chance {
 #[test]
 fn arguments_in_any_order() {
     let (bundle, mut chance) = (bundle(), Chance(7));
-    for round in 0..4000 {
+    for round in 0..2000 {
         let (mut args, mut set) = (FluentArgs::new(), BTreeMap::new());
-        for _ in 0..chance.below(12) {
+        for _ in 0..chance.below(24) {
             let (name, (value, shown)) = (NAMES[chance.below(NAMES.len())], value(chance.below(9)));
             match round % 2 {
                 0 => args.set(name, value),
@@ -127,19 +130,18 @@ fn arguments_change_after_they_were_asked_for() {
     let mut args = FluentArgs::new();
     args.set("z".to_owned(), "Z".to_owned());
     args.set("a".to_owned(), 1.5);
+    let large = 1e300.to_string();
     for (value, shown) in [
         (FluentValue::from(5), "5"),
         (FluentNumber::new(0.5, percent).into(), "50%"),
         ("Jane".into(), "Jane"),
         (FluentValue::Error, ""),
-        (1e300.into(), "1000000"),
+        (1e300.into(), &large),
     ] {
         args.set("n", value);
+        let set = BTreeMap::from([("a", "1.5"), ("n", shown), ("z", "Z")]);
         for _ in 0..3 {
-            let (text, errors) = text(&bundle, &args);
-            let (before, after) = (text.split('|').next(), text.split('|').nth(3));
-            assert_eq!((before, errors), (Some("1.5"), 5), "{text}");
-            assert!(after.is_some_and(|after| after.starts_with(shown)), "{text}");
+            assert_eq!(text(&bundle, &args), expected(&set));
         }
         // What is kept goes along.
         args = std::thread::spawn(move || args).join().expect("It ends.");
