@@ -85,6 +85,7 @@ impl Kept {
         (made == c::FLUENT_READ).then(|| Kept(Mutex::new(asked)))
     }
 
+    #[inline]
     fn asked(&self) -> MutexGuard<'_, Asked> {
         // Between any two calls of the library, what is under the lock is as a call leaves it.
         self.0.lock().unwrap_or_else(PoisonError::into_inner)

@@ -164,6 +164,7 @@ impl FluentNumber {
     }
 
     /// Whether there is an option but for the digits after the point.
+    #[inline]
     pub(crate) fn has_more_options(&self) -> bool {
         self.options.are_more()
     }
