@@ -20,7 +20,7 @@
 #endif
 
 /* More arguments than these are not on the stack. */
-#define FEW 8
+#define FEW 16
 
 /* A text of at most so many bytes is written onto the stack. */
 #define ROOM 512
@@ -501,14 +501,16 @@ static bool is_usual(PyObject *name, PyObject *value, struct FluentArgument *arg
 /* The answer to what is usual: texts and integers for a text that is written into the room. It is NULL, without an error, if the
  * answer has to be found in another way. */
 static PyObject *quickly(struct Calls *calls, PyObject *const *given, Py_ssize_t count, PyObject *keywords) {
-    struct FluentArgument list[FEW];
-    struct Arguments arguments = {.count = keywords ? PyTuple_Size(keywords) : 0, .list = list};
+    /* What isn't used isn't cleared. */
+    struct Arguments arguments;
+    arguments.count = keywords ? PyTuple_Size(keywords) : 0;
+    arguments.list = arguments.few;
     PyObject *names[] = {given[0], count == 2 ? given[1] : Py_None};
     struct FluentPattern pattern;
     if (count > 2 || arguments.count > FEW || !calls->found->answer || !names_of(calls->found, names, &pattern))
         return NULL;
     for (Py_ssize_t each = 0; each < arguments.count; each++)
-        if (!is_usual(PyTuple_GetItem(keywords, each), given[count + each], &list[each]))
+        if (!is_usual(PyTuple_GetItem(keywords, each), given[count + each], &arguments.few[each]))
             return NULL;
     struct Said said = {0};
     bool is_taken = calls->lock->taken != 0;
