@@ -1,6 +1,6 @@
 //! Bundles of resources.
 
-use crate::args::{FluentArgs, NONE};
+use crate::args::FluentArgs;
 use crate::c;
 use crate::call::{Answering, Functions};
 use crate::custom::{Customs, Transform};
@@ -9,6 +9,7 @@ use crate::entries::{Asking, Entries, Held};
 use crate::errors::{EntryKind, FluentError};
 use crate::fixed::{Known, KnownTexts, Varies};
 use crate::kept::{Kept, Refusal, Settings};
+use crate::listing::line_end;
 use crate::memoizer::IntlLangMemoizer;
 use crate::message::{FluentMessage, Message, Pattern};
 use crate::number::FluentNumber;
@@ -441,7 +442,7 @@ impl<R: Borrow<FluentResource>, M> FluentBundle<R, M> {
     fn found_out(&self, own: &Pattern) -> Known {
         let fixed = |text: &mut Text, errors: &str| errors.is_empty().then(|| text.as_str().to_owned());
         // A text that calls a function isn't kept.
-        match self.kept(self.shows(None)).format(own, NONE, |_| None, fixed) {
+        match self.kept(self.shows(None)).format(own, &FluentArgs::new(), |_| None, fixed) {
             Ok(Some(text)) => {
                 let shown = Customs::default().shown(&text, self.transform, Locales::default());
                 Known::Fixed(shown.unwrap_or(text).into_boxed_str())
@@ -461,12 +462,19 @@ impl<R: Borrow<FluentResource>, M> FluentBundle<R, M> {
         errors: &mut Vec<FluentError>,
         room: &mut ShortText,
     ) -> bool {
-        let args = args.unwrap_or(NONE);
-        let is_shown_so = self.formatter.is_none() && self.transform.is_none() && args.are_plain();
-        if !is_shown_so || !varies.is_short() {
+        if !varies.is_short() || self.formatter.is_some() || self.transform.is_some() {
             return false;
         }
-        let status = self.kept(false).write(pattern, varies.number, args, room, |lines| tell(lines, errors));
+        let mut write = |args: &[c::FluentArgument]| {
+            self.kept(false).write(pattern, varies.number, args, room, |lines| tell(lines, errors))
+        };
+        let status = match args {
+            None => write(&[]),
+            Some(args) => match args.with_plain(write) {
+                Some(status) => status,
+                None => return false,
+            },
+        };
         if matches!(status, c::FLUENT_CALL | c::FLUENT_NO_ROOM) {
             varies.set_long();
         }
@@ -481,7 +489,8 @@ impl<R: Borrow<FluentResource>, M> FluentBundle<R, M> {
         errors: &mut Vec<FluentError>,
         took: impl FnOnce(&mut Text) -> T,
     ) -> Option<Formatted<T>> {
-        let (args, kept) = (args.unwrap_or(NONE), self.kept(self.shows(args)));
+        let (none, kept) = (FluentArgs::new(), self.kept(self.shows(args)));
+        let args = args.unwrap_or(&none);
         let mut customs = Customs::default();
         let given = args.in_library(&mut customs);
         let show = |value: &FluentValue<'_>| self.shown(value);
@@ -617,7 +626,8 @@ impl<R: Borrow<FluentResource>, M> FluentBundle<R, M> {
 
     /// A source, as the library is given it.
     fn source<'s>(&self, source: &'s str, shows: bool, has_dates: bool) -> Cow<'s, str> {
-        if self.functions.are_none() && !shows && !has_dates {
+        let is_called = self.functions.is_any_in(source) || (has_dates && source.contains("DATETIME"));
+        if !shows && !is_called {
             return Cow::Borrowed(source);
         }
         let is_own =
@@ -648,10 +658,14 @@ fn number_source(options: &str) -> String {
     format!("number = {{ {number} }}\ncategory = {{ {number} ->\n{categories}   *[other] other\n}}\n")
 }
 
-/// Adds the errors of these lines.
+/// Adds the errors of these lines, each of which ends in a line feed.
 #[cold]
 fn tell(lines: &str, errors: &mut Vec<FluentError>) {
-    errors.extend(lines.split_terminator('\n').map(|line| ResolverError::of_line(line).into()));
+    let mut start = 0;
+    while let Some(end) = line_end(lines, start) {
+        errors.push(ResolverError::of_line(&lines[start..end]).into());
+        start = end + 1;
+    }
 }
 
 /// The text of a pattern.
