@@ -7,6 +7,7 @@ use Rattle.lint_findings.specs.Output.{json, terminal, text}
 use Rattle.lint_findings.specs.Report.{text_codes}
 use Rattle.ftl_arguments.specs.Meaning.{AskForHelpAlone, AskForVersionAlone, check, clean, command_of, explained_of, faults_of, format, join, lint, lint_input, lint_project, run, status, tidy, tidy_files, tidy_input}
 use Rattle.ftl_arguments.specs.Commands.{program_app}
+use Rattle.ftl_arguments.specs.Linting.{finding_codes}
 use Rattle.ftl_arguments.specs.Projects.{markdown}
 
 no_file : faults_of (codes "run" ∷ codes "--overriding" ∷ []) ≡ MissingRequiredArgument ∷ []
@@ -150,7 +151,7 @@ codes_to_ignore : command_of false (codes "lint" ∷ codes "--ignore" ∷ codes 
       format = text;
       files = codes "a" ∷ [];
     }))
-unfolding clap_on_literals
+unfolding clap_on_literals finding_codes
 codes_to_ignore = refl
 
 codes_with_commas : command_of false (codes "lint" ∷ codes "--ignore" ∷ codes "untranslated,no-value" ∷ codes "a" ∷ codes "--ignore=syntax" ∷ [])
@@ -165,7 +166,7 @@ codes_with_commas : command_of false (codes "lint" ∷ codes "--ignore" ∷ code
       format = text;
       files = codes "a" ∷ [];
     }))
-unfolding clap_on_literals
+unfolding clap_on_literals finding_codes
 codes_with_commas = refl
 
 -- the others are left out, and notes are reported
@@ -193,7 +194,7 @@ codes_to_select : command_of false (codes "lint" ∷ codes "--select" ∷ codes 
       format = text;
       files = codes "a" ∷ [];
     }))
-unfolding clap_on_literals
+unfolding clap_on_literals finding_codes
 codes_to_select = refl
 
 -- the notes on texts are asked for by the name of their group
@@ -219,7 +220,7 @@ the_group_to_select : command_of false (codes "lint" ∷ codes "--select=texts" 
       format = text;
       files = codes "a" ∷ [];
     }))
-unfolding clap_on_literals
+unfolding clap_on_literals finding_codes
 the_group_to_select = refl
 
 abbrev explains : List Text → Option Text
@@ -227,7 +228,7 @@ explains words = explained_of (subcommand_of program_app words)
 
 -- what a code means is no command
 explained_code : explains (codes "lint" ∷ codes "--explain" ∷ codes "no-value" ∷ []) ≡ Some (codes "no-value")
-unfolding clap_on_literals
+unfolding clap_on_literals finding_codes
 explained_code = refl
 
 no_command : command_of false (codes "lint" ∷ codes "--explain" ∷ codes "no-value" ∷ []) ≡ None
@@ -235,19 +236,19 @@ unfolding clap_on_literals
 no_command = refl
 
 no_code_to_explain : explains (codes "lint" ∷ codes "--explain" ∷ codes "value" ∷ []) ≡ None
-unfolding clap_on_literals
+unfolding clap_on_literals finding_codes
 no_code_to_explain = refl
 
 no_such_code_among_these : command_of false (codes "lint" ∷ codes "--select" ∷ codes "syntax,value" ∷ codes "a" ∷ []) ≡ None
-unfolding clap_on_literals
+unfolding clap_on_literals finding_codes
 no_such_code_among_these = refl
 
 no_code_behind_a_comma : command_of false (codes "lint" ∷ codes "--ignore" ∷ codes "syntax," ∷ codes "a" ∷ []) ≡ None
-unfolding clap_on_literals
+unfolding clap_on_literals finding_codes
 no_code_behind_a_comma = refl
 
 no_such_code : command_of false (codes "lint" ∷ codes "--ignore" ∷ codes "untranslated" ∷ codes "--ignore" ∷ codes "value" ∷ codes "a" ∷ []) ≡ None
-unfolding clap_on_literals
+unfolding clap_on_literals finding_codes
 no_such_code = refl
 
 counts_of_a_reference : command_of false (codes "lint" ∷ codes "--counts" ∷ codes "--reference" ∷ codes "r" ∷ codes "a" ∷ [])
