@@ -6,10 +6,12 @@
 A result has the keys `what`, `call`, which prints it, and `least` and `most`, the ratios between which several runs lay:
 Rust's time by ours. If peak memory was measured, `megabytes` has ours and Rust's. `bar` is its name in the chart, which has
 only results with one, and `group` the part of the chart; `time` is ours in microseconds, one or the least and the greatest,
-of which the chart also makes the other crate's. `kind` is the name under which pages speak of it.
+of which the chart also makes the other crate's. `kind` is the name under which pages speak of it. A result with the key
+`instructions`, ours and the other package's if there is one, is a step of a program: its `what` is the language and the work,
+as `from Rust, two variables`.
 
-Writes the chart docs/images/speed.svg and the table of docs/inside/speed.md. `--check` writes nothing, and ends with 1 if
-either isn't that of the results, or a page says another range of a kind.
+Writes the chart docs/images/speed.svg and the tables of docs/inside/speed.md. `--check` writes nothing, and ends with 1 if
+one isn't that of the results, or a page says another range of a kind.
 """
 import json
 import re
@@ -30,6 +32,9 @@ SAID = {
 }
 SAYING = {'README.md': [*SAID], 'docs/compared-with.md': [*SAID][1:]}
 TABLE_HEAD = '| What | Ratio | Peak memory, ours and Rust\'s, MB | Call |\n|---|---|---|---|\n'
+# The table of instructions has a row for each work, in the order of the results.
+COUNTS_HEAD = '| What, by `bench/bindings/run.sh` | Rust | `fluent-bundle` | Ratio | C | Python |\n|---|---|---|---|---|---|\n'
+MILLION = 1_000_000
 # The parts of the chart, what people do most first, and next to what each was measured.
 GROUPS = {
     'rust': ('From Rust', 'fluent-bundle', '0.15.3'),
@@ -66,6 +71,28 @@ def table(results):
         return f'| {result["what"]} | {ratios(result)} |{"|".join(cells)}|\n'
 
     return TABLE_HEAD + ''.join(map(row, results, [None, *results]))
+
+
+def shown(count):
+    """A number of instructions."""
+    return f'{count / MILLION:.1f} million' if count >= MILLION else f'{count:,}'
+
+
+def counts_table(results):
+    """The table of instructions: of each work the counts of each language."""
+    works = {}
+    for result in results:
+        language, _, work = result['what'].removeprefix('from ').partition(', ')
+        works.setdefault(work, {})[language] = result['instructions']
+
+    def row(work, counts):
+        ours, theirs = [*counts.get('Rust', ()), None, None][:2]
+        ratio = f'{theirs / ours:.2f}' if theirs else ''
+        alone = [counts.get(language, [None])[0] for language in ('C', 'Python')]
+        cells = [*(count and shown(count) for count in (ours, theirs)), ratio, *(count and shown(count) for count in alone)]
+        return f'| {work} |{"|".join(f" {cell} " if cell else " " for cell in cells)}|\n'
+
+    return COUNTS_HEAD + ''.join(row(work, counts) for work, counts in works.items())
 
 
 def in_unit(least, most):
@@ -139,12 +166,18 @@ def told(shown):
     return '. '.join(map(part, GROUPS))
 
 
+def with_table(page, head, table):
+    """A page with another table in the place of the one that begins so."""
+    start = page.index(head)
+    return page[:start] + table + page[page.index('\n\n', start) + 1:]
+
+
 def made(results):
     """What each file is to hold."""
-    page = PAGE.read_text()
-    start = page.index(TABLE_HEAD)
-    end = page.index('\n\n', start) + 1
-    return {CHART: chart(results), PAGE: page[:start] + table(results) + page[end:]}
+    timed = [result for result in results if 'least' in result]
+    counted = [result for result in results if 'instructions' in result]
+    page = with_table(PAGE.read_text(), TABLE_HEAD, table(timed))
+    return {CHART: chart(timed), PAGE: with_table(page, COUNTS_HEAD, counts_table(counted))}
 
 
 def rounded(ratio, said):

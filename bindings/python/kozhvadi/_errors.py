@@ -60,6 +60,10 @@ class ResolverError(_Told):
         super().__init__(line)
         head, _, name = line.partition(": ")
         self.id, self.attribute = None, None
+        # Mostly it is a variable.
+        if head == "Unknown variable" and "." not in name:
+            self.kind, self.id = "variable", name.lstrip("$-")
+            return
         if raised := _RAISED.match(line):
             self.kind, self.id = "raised", raised[1]
         elif head == "No value":

@@ -8,7 +8,7 @@ from collections.abc import Callable
 from typing import TYPE_CHECKING, Any, TypeVar, cast
 
 if TYPE_CHECKING:
-    from ._fast import Calls, Quick
+    from ._fast import Calls, Lock, Quick
 
 Method = TypeVar("Method", bound=Callable[..., Any])
 
@@ -16,18 +16,19 @@ Method = TypeVar("Method", bound=Callable[..., Any])
 _ATTRIBUTES = (*functools.WRAPPER_ASSIGNMENTS, "__code__", "__defaults__", "__kwdefaults__")
 
 
-def _found() -> tuple[type[Calls], type[Quick]] | tuple[None, None]:
+def _found() -> tuple[type[Calls], type[Lock], type[Quick]] | tuple[None, None, None]:
     if os.environ.get("KOZHVADI_CTYPES"):
-        return None, None
+        return None, None, None
     try:
-        from ._fast import Calls, Quick
+        from ._fast import Calls, Lock, Quick
     except ImportError:
-        return None, None
-    return Calls, Quick
+        return None, None, None
+    return Calls, Lock, Quick
 
 
-# The calls of a bundle, in the place of ctypes. The environment variable KOZHVADI_CTYPES leaves them out.
-calls_type, _quick_type = _found()
+# The calls of a bundle, in the place of ctypes, and a lock of which they know whether a thread has it. The environment variable
+# KOZHVADI_CTYPES leaves them out.
+calls_type, lock_type, _quick_type = _found()
 
 
 def quick(method: Method) -> Method:

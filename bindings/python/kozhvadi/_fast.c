@@ -2,12 +2,15 @@
  *
  * It is an extension module of Python's stable ABI, for Python 3.10 and later, over the library that _library.py opened. What
  * is unusual, such as a float or a text that can't be written in UTF-8, it leaves to _values.py. The library is asked under
- * the bundle's lock, under which no code of a program runs.
+ * the bundle's lock, under which no code of a program runs, or while nobody has it and no other thread can run.
  */
 #define PY_SSIZE_T_CLEAN
 #define Py_LIMITED_API 0x030A0000
 #include <Python.h>
 #include <structmember.h>
+
+#include <stddef.h>
+#include <wchar.h>
 
 #include <fluent_c.h>
 
@@ -17,9 +20,9 @@
 #endif
 
 /* More arguments than these are not on the stack. */
-#define FEW 8
+#define FEW 16
 
-/* A text of at most so many bytes is written into memory of the bundle's calls. */
+/* A text of at most so many bytes is written onto the stack. */
 #define ROOM 512
 
 /* The number of a message that isn't looked up, and that of one that calls functions. */
@@ -42,17 +45,27 @@ struct Found {
     PyObject *kind_and_text;
     PyObject *encoded;
     PyObject *method;
-    /* The type of calls, and the name under which a bundle has them once nothing is left to warn of. */
+    /* The types of calls and of locks, and the name under which a bundle has its calls once nothing is left to warn of. */
     PyObject *calls_type;
+    PyObject *lock_type;
     PyObject *quick;
+};
+
+/* A lock that the thread which has it may take again. It says whether a thread has it: while the extension asks the library, no
+ * other thread runs, since it keeps Python's own lock, so it needn't take one that nobody has. */
+struct Lock {
+    PyObject_HEAD
+    PyObject *acquire;
+    PyObject *release;
+    Py_ssize_t taken;
+    PyObject *references;
 };
 
 /* The calls of one bundle, and the memory of its answers, which is under the bundle's lock too. */
 struct Calls {
     PyObject_HEAD
     struct Found *found;
-    PyObject *acquire;
-    PyObject *release;
+    struct Lock *lock;
     /* The object that has the bundle in it, and the bundle, or that which is none once these are closed. */
     PyObject *owner;
     struct FluentBundle *bundle;
@@ -60,7 +73,6 @@ struct Calls {
     struct FluentText text;
     struct FluentText errors;
     struct FluentText call;
-    uint8_t room[ROOM];
     /* The numbers of messages that were asked for, by their ids; of one that calls functions it is CALLS. */
     PyObject *numbers;
 };
@@ -175,15 +187,60 @@ static bool arguments_of(struct Found *found, PyObject *given, PyObject *formatt
     return true;
 }
 
-/* Takes the bundle's lock, or gives it back. */
-static bool lock(PyObject *call) {
-    PyObject *done = PyObject_CallNoArgs(call);
+/* Takes a lock. */
+static bool take(struct Lock *lock) {
+    PyObject *done = PyObject_CallNoArgs(lock->acquire);
+    lock->taken += done != NULL;
+    Py_XDECREF(done);
+    return done != NULL;
+}
+
+/* Gives a lock back. */
+static bool give_back(struct Lock *lock) {
+    PyObject *done = PyObject_CallNoArgs(lock->release);
+    lock->taken -= done != NULL;
     Py_XDECREF(done);
     return done != NULL;
 }
 
 static PyObject *string_of(const struct FluentText *text) {
     return PyUnicode_FromStringAndSize(text->len ? (const char *)text->bytes : "", (Py_ssize_t)text->len);
+}
+
+/* How many of the first bytes are ASCII. */
+static size_t ascii_len(const uint8_t *bytes, size_t len) {
+    size_t each = 0;
+    uint64_t word;
+    for (; each + sizeof word <= len; each += sizeof word) {
+        memcpy(&word, bytes + each, sizeof word);
+        if (word & 0x8080808080808080)
+            break;
+    }
+    while (each < len && bytes[each] < 0x80)
+        each++;
+    return each;
+}
+
+/* The character that begins at `*at`, which is moved after it. The bytes are UTF-8. */
+static wchar_t character_at(const uint8_t **at) {
+    const uint8_t *byte = *at;
+    int more = byte[0] < 0x80 ? 0 : byte[0] < 0xe0 ? 1 : byte[0] < 0xf0 ? 2 : 3;
+    uint32_t character = more ? byte[0] & (0x3f >> more) : byte[0];
+    for (int each = 1; each <= more; each++)
+        character = character << 6 | (byte[each] & 0x3f);
+    *at = byte + more + 1;
+    return (wchar_t)character;
+}
+
+/* The text of a room, which is UTF-8. Python takes characters in less time than bytes. */
+static PyObject *short_string_of(const uint8_t *room, size_t len) {
+    if (sizeof(wchar_t) < sizeof(uint32_t) || ascii_len(room, len) == len)
+        return PyUnicode_FromStringAndSize((const char *)room, (Py_ssize_t)len);
+    wchar_t characters[ROOM];
+    Py_ssize_t count = 0;
+    for (const uint8_t *at = room; at < room + len;)
+        characters[count++] = *at < 0x80 ? (wchar_t)*at++ : character_at(&at);
+    return PyUnicode_FromWideChar(characters, count);
 }
 
 /* The errors of functions, and those of lines, which are NULL if there are none. */
@@ -322,20 +379,22 @@ static void number(struct Calls *calls, PyObject *id, struct FluentPattern *name
         keep_number(calls, id, names->number);
 }
 
-/* Whether the library writes a text into the room: if there is one, it isn't long, and it calls no functions. */
+/* Whether the library writes a text onto the stack: if there is one, it isn't long, and it calls no functions. No code of Python
+ * runs until what was written is copied. */
 static bool is_written(
     struct Calls *calls, PyObject *id, struct FluentPattern *names, const struct Arguments *arguments, struct Said *said) {
+    uint8_t room[ROOM];
     size_t len;
     number(calls, id, names);
     if (names->number == CALLS)
         return false;
     said->status = calls->found->write(
-        calls->bundle, names, arguments->list, (size_t)arguments->count, calls->room, ROOM, &len, &calls->errors);
+        calls->bundle, names, arguments->list, (size_t)arguments->count, room, ROOM, &len, &calls->errors);
     if (said->status == FLUENT_CALL)
         keep_number(calls, id, CALLS);
     if (said->status != FLUENT_READ)
         return false;
-    said->text = PyUnicode_FromStringAndSize((const char *)calls->room, (Py_ssize_t)len);
+    said->text = short_string_of(room, len);
     return true;
 }
 
@@ -344,7 +403,7 @@ static bool ask(
     struct Calls *calls, PyObject *id, struct FluentPattern *names, const struct Arguments *arguments,
     const struct Answers *answers, struct Said *said) {
     said->text = said->lines = NULL;
-    if (!lock(calls->acquire))
+    if (!take(calls->lock))
         return false;
     bool is_short = !answers->count && is_written(calls, id, names, arguments, said);
     if (!is_short)
@@ -355,7 +414,7 @@ static bool ask(
     bool has_lines = is_call ? lists_calls(calls, names, arguments, answers) : is_answer && calls->errors.held;
     if (has_lines)
         said->lines = string_of(is_call ? &calls->call : &calls->errors);
-    bool is_free = lock(calls->release);
+    bool is_free = give_back(calls->lock);
     return is_free && (said->text || !(is_answer || is_call)) && (said->lines || !has_lines);
 }
 
@@ -442,22 +501,26 @@ static bool is_usual(PyObject *name, PyObject *value, struct FluentArgument *arg
 /* The answer to what is usual: texts and integers for a text that is written into the room. It is NULL, without an error, if the
  * answer has to be found in another way. */
 static PyObject *quickly(struct Calls *calls, PyObject *const *given, Py_ssize_t count, PyObject *keywords) {
-    struct FluentArgument list[FEW];
-    struct Arguments arguments = {.count = keywords ? PyTuple_Size(keywords) : 0, .list = list};
+    /* What isn't used isn't cleared. */
+    struct Arguments arguments;
+    arguments.count = keywords ? PyTuple_Size(keywords) : 0;
+    arguments.list = arguments.few;
     PyObject *names[] = {given[0], count == 2 ? given[1] : Py_None};
     struct FluentPattern pattern;
     if (count > 2 || arguments.count > FEW || !calls->found->answer || !names_of(calls->found, names, &pattern))
         return NULL;
     for (Py_ssize_t each = 0; each < arguments.count; each++)
-        if (!is_usual(PyTuple_GetItem(keywords, each), given[count + each], &list[each]))
+        if (!is_usual(PyTuple_GetItem(keywords, each), given[count + each], &arguments.few[each]))
             return NULL;
     struct Said said = {0};
-    if (!lock(calls->acquire))
+    bool is_taken = calls->lock->taken != 0;
+    if (is_taken && !take(calls->lock))
         return NULL;
     bool has_lines = is_written(calls, given[0], &pattern, &arguments, &said) && calls->errors.held;
     if (has_lines)
         said.lines = string_of(&calls->errors);
-    bool is_whole = lock(calls->release) && said.text && (said.lines || !has_lines);
+    bool is_free = !is_taken || give_back(calls->lock);
+    bool is_whole = is_free && said.text && (said.lines || !has_lines);
     PyObject *made = is_whole ? answer_of(calls->found, NULL, said.text, said.lines) : NULL;
     Py_XDECREF(said.text);
     Py_XDECREF(said.lines);
@@ -472,10 +535,10 @@ static PyObject *has(PyObject *self, PyObject *const *given, Py_ssize_t count) {
         PyErr_SetString(PyExc_TypeError, "has takes two arguments, before Python ends");
         return NULL;
     }
-    if (!names_of(calls->found, given, &names) || !lock(calls->acquire))
+    if (!names_of(calls->found, given, &names) || !take(calls->lock))
         return NULL;
     uint32_t found = calls->found->has(calls->bundle, names.id, names.id_len, names.attribute, names.attribute_len);
-    return lock(calls->release) ? PyLong_FromUnsignedLong(found) : NULL;
+    return give_back(calls->lock) ? PyLong_FromUnsignedLong(found) : NULL;
 }
 
 /* close(): from now on there is no bundle. The one that was asked may be that of others. */
@@ -491,12 +554,13 @@ static PyObject *close_calls(PyObject *self, PyObject *none) {
 }
 
 static PyObject *new_calls(PyTypeObject *type, PyObject *arguments, PyObject *keywords) {
-    PyObject *address, *owner, *locks;
+    struct Found *found = PyType_GetModuleState(type);
+    PyObject *address, *owner, *lock;
     if (keywords && PyDict_Size(keywords)) {
         PyErr_SetString(PyExc_TypeError, "Calls takes no keywords");
         return NULL;
     }
-    if (!PyArg_ParseTuple(arguments, "OOO", &address, &owner, &locks))
+    if (!PyArg_ParseTuple(arguments, "OOO!", &address, &owner, found->lock_type, &lock))
         return NULL;
     struct FluentBundle *bundle = PyLong_AsVoidPtr(address);
     if (!bundle && PyErr_Occurred())
@@ -505,14 +569,14 @@ static PyObject *new_calls(PyTypeObject *type, PyObject *arguments, PyObject *ke
     struct Calls *calls = (struct Calls *)PyType_GenericAlloc(type, 0);
     if (!calls)
         return NULL;
-    calls->found = PyType_GetModuleState(type);
+    calls->found = found;
     Py_INCREF(owner);
     calls->owner = owner;
     calls->bundle = bundle;
-    calls->acquire = PyObject_GetAttrString(locks, "acquire");
-    calls->release = PyObject_GetAttrString(locks, "release");
+    Py_INCREF(lock);
+    calls->lock = (struct Lock *)lock;
     calls->numbers = PyDict_New();
-    if (calls->acquire && calls->release && calls->numbers)
+    if (calls->numbers)
         return (PyObject *)calls;
     Py_DECREF(calls);
     return NULL;
@@ -524,8 +588,7 @@ static void free_calls(PyObject *self) {
     calls->found->free_text(&calls->text);
     calls->found->free_text(&calls->errors);
     calls->found->free_text(&calls->call);
-    Py_XDECREF(calls->acquire);
-    Py_XDECREF(calls->release);
+    Py_DECREF(calls->lock);
     Py_XDECREF(calls->numbers);
     Py_DECREF(calls->owner);
     PyObject_Free(self);
@@ -551,6 +614,85 @@ static PyType_Spec calls_spec = {
     .basicsize = sizeof(struct Calls),
     .flags = Py_TPFLAGS_DEFAULT,
     .slots = calls_slots,
+};
+
+static PyObject *new_lock(PyTypeObject *type, PyObject *arguments, PyObject *keywords) {
+    PyObject *inner;
+    if (keywords && PyDict_Size(keywords)) {
+        PyErr_SetString(PyExc_TypeError, "Lock takes no keywords");
+        return NULL;
+    }
+    if (!PyArg_ParseTuple(arguments, "O", &inner))
+        return NULL;
+    struct Lock *lock = (struct Lock *)PyType_GenericAlloc(type, 0);
+    if (!lock)
+        return NULL;
+    lock->acquire = PyObject_GetAttrString(inner, "acquire");
+    lock->release = PyObject_GetAttrString(inner, "release");
+    if (lock->acquire && lock->release)
+        return (PyObject *)lock;
+    Py_DECREF(lock);
+    return NULL;
+}
+
+static void free_lock(PyObject *self) {
+    struct Lock *lock = (struct Lock *)self;
+    PyTypeObject *type = Py_TYPE(self);
+    if (lock->references)
+        PyObject_ClearWeakRefs(self);
+    Py_XDECREF(lock->acquire);
+    Py_XDECREF(lock->release);
+    PyObject_Free(self);
+    Py_DECREF(type);
+}
+
+/* acquire(blocking=True): whether it is taken. */
+static PyObject *acquire(PyObject *self, PyObject *positional, PyObject *named) {
+    struct Lock *lock = (struct Lock *)self;
+    PyObject *done = PyObject_Call(lock->acquire, positional, named);
+    lock->taken += done == Py_True;
+    return done;
+}
+
+static PyObject *enter(PyObject *self, PyObject *none) {
+    (void)none;
+    return take((struct Lock *)self) ? PyBool_FromLong(1) : NULL;
+}
+
+/* release(), and __exit__(kind, error, trace). */
+static PyObject *release(PyObject *self, PyObject *given) {
+    (void)given;
+    if (!give_back((struct Lock *)self))
+        return NULL;
+    Py_RETURN_NONE;
+}
+
+static PyMethodDef lock_methods[] = {
+    {"acquire", (PyCFunction)(void (*)(void))acquire, METH_VARARGS | METH_KEYWORDS, NULL},
+    {"release", release, METH_NOARGS, NULL},
+    {"__enter__", enter, METH_NOARGS, NULL},
+    {"__exit__", release, METH_VARARGS, NULL},
+    {NULL, NULL, 0, NULL},
+};
+
+static PyMemberDef lock_members[] = {
+    {"__weaklistoffset__", T_PYSSIZET, offsetof(struct Lock, references), READONLY, NULL},
+    {NULL, 0, 0, 0, NULL},
+};
+
+static PyType_Slot lock_slots[] = {
+    {Py_tp_new, new_lock},
+    {Py_tp_dealloc, free_lock},
+    {Py_tp_methods, lock_methods},
+    {Py_tp_members, lock_members},
+    {0, NULL},
+};
+
+static PyType_Spec lock_spec = {
+    .name = "kozhvadi._fast.Lock",
+    .basicsize = sizeof(struct Lock),
+    .flags = Py_TPFLAGS_DEFAULT,
+    .slots = lock_slots,
 };
 
 /* A method of bundles, which answers what is usual itself, and calls the function that it wraps for the rest. As a method in Python
@@ -706,14 +848,17 @@ static int fill_module(PyObject *module) {
         || !(found->encoded = attribute_of("kozhvadi._values", "encoded"))
         || !(found->method = attribute_of("types", "MethodType"))
         || !(found->quick = PyUnicode_InternFromString("_quick"))
-        || !(found->calls_type = PyType_FromModuleAndSpec(module, &calls_spec, NULL)))
+        || !(found->calls_type = PyType_FromModuleAndSpec(module, &calls_spec, NULL))
+        || !(found->lock_type = PyType_FromModuleAndSpec(module, &lock_spec, NULL)))
         return -1;
     PyObject *type = PyType_FromModuleAndSpec(module, &quick_spec, NULL);
     if (!type)
         return -1;
     int added = PyModule_AddObjectRef(module, "Quick", type);
     Py_DECREF(type);
-    return added < 0 ? added : PyModule_AddObjectRef(module, "Calls", found->calls_type);
+    if (added < 0 || PyModule_AddObjectRef(module, "Lock", found->lock_type) < 0)
+        return -1;
+    return PyModule_AddObjectRef(module, "Calls", found->calls_type);
 }
 
 static int visit_module(PyObject *module, visitproc visit, void *arg) {
@@ -726,6 +871,7 @@ static int visit_module(PyObject *module, visitproc visit, void *arg) {
     Py_VISIT(found->encoded);
     Py_VISIT(found->method);
     Py_VISIT(found->calls_type);
+    Py_VISIT(found->lock_type);
     return 0;
 }
 
@@ -739,6 +885,7 @@ static int clear_module(PyObject *module) {
     Py_CLEAR(found->encoded);
     Py_CLEAR(found->method);
     Py_CLEAR(found->calls_type);
+    Py_CLEAR(found->lock_type);
     Py_CLEAR(found->quick);
     return 0;
 }

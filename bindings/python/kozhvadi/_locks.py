@@ -6,16 +6,24 @@ import os
 import threading
 import weakref
 from itertools import chain
+from typing import TYPE_CHECKING, Union
+
+from ._extension import lock_type
+
+if TYPE_CHECKING:
+    from ._fast import Lock as _Lock
+
+    Lock = Union[threading.RLock, _Lock]
 
 # Under this one locks are made, and a thread forks.
-_all = threading.RLock()
-_locks: weakref.WeakSet[threading.RLock] = weakref.WeakSet()
-_taken: list[threading.RLock] = []
+_all: Lock = threading.RLock()
+_locks: weakref.WeakSet[Lock] = weakref.WeakSet()
+_taken: list[Lock] = []
 
 
-def new_lock() -> threading.RLock:
+def new_lock() -> Lock:
     """A lock that the thread which holds it may take again, as a signal handler does."""
-    lock = threading.RLock()
+    lock: Lock = lock_type(threading.RLock()) if lock_type else threading.RLock()
     with _all:
         _locks.add(lock)
     return lock
@@ -39,7 +47,7 @@ def _take_all() -> None:
         _free(taken)
 
 
-def _free(locks: list[threading.RLock]) -> None:
+def _free(locks: list[Lock]) -> None:
     for lock in reversed(locks):
         lock.release()
 

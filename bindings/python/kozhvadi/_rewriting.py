@@ -39,7 +39,9 @@ class Rewriting(NamedTuple):
     shows: bool
 
     def of(self, text: bytes) -> bytes:
-        """A source, rewritten."""
+        """A source, rewritten. One without the name of a function stays as it is, unless values are shown by calls."""
+        if not self.shows and not any(name.encode() in text for name in self.own):
+            return text
         return rewritten(text.decode(), self.own, self.shows).encode()
 
 

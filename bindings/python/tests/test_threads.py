@@ -7,6 +7,7 @@ import unittest
 import warnings
 
 from kozhvadi import Bundle, FluentWarning, Localization, tidy
+from kozhvadi._locks import new_lock
 from kozhvadi.runtime import AbstractResourceLoader, FluentBundle, FluentLocalization, FluentResource
 
 
@@ -109,6 +110,28 @@ class ThreadsTest(unittest.TestCase):
                 warnings.simplefilter("always")
                 self.assertEqual([answer.text for answer in in_threads(lambda: bundle.format("a"))], ["A"] * 8)
             self.assertEqual([each.category for each in told], [FluentWarning])
+
+    def test_an_answer_waits_for_who_has_the_bundle(self):
+        told = []
+        with Bundle("a = { $x }\n", isolating=False) as bundle:
+            self.assertEqual(bundle.format("a", x=0).text, "0")
+            asking = threading.Thread(target=lambda: told.append(bundle.format("a", x=1).text))
+            with bundle._lock:
+                asking.start()
+                asking.join(0.2)
+                self.assertEqual((told, bundle.format("a", x=2).text), ([], "2"))
+            asking.join()
+            self.assertEqual((told, bundle.format("a", x=3).text), (["1"], "3"))
+
+    def test_a_lock_that_nobody_has_is_not_given_back(self):
+        lock = new_lock()
+        for _ in range(2):
+            with self.assertRaises(RuntimeError):
+                lock.release()
+            with lock:
+                self.assertTrue(lock.acquire(blocking=False))
+                self.assertEqual(in_threads(lambda: lock.acquire(blocking=False), 2), [False] * 2)
+                lock.release()
 
     def test_others_go_on_while_the_library_works(self):
         """A call of the library lets go of Python's lock: a thread that counts goes on."""

@@ -30,6 +30,11 @@ impl Functions {
         self.0.is_empty()
     }
 
+    /// Whether a source has one of the names in it, somewhere.
+    pub(crate) fn is_any_in(&self, source: &str) -> bool {
+        self.0.keys().any(|name| source.contains(name.as_str()))
+    }
+
     /// The names that rewritten sources call, which are all if `shows` says that values are shown by calls, and also
     /// `DATETIME` if `has_dates` says that it is the one of each bundle.
     pub(crate) fn called(&self, shows: bool, has_dates: bool) -> Vec<String> {

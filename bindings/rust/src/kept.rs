@@ -1,6 +1,6 @@
 //! A bundle that the library keeps.
 
-use crate::args::{FluentArgs, NONE};
+use crate::args::FluentArgs;
 use crate::c;
 use crate::message::Pattern;
 use crate::text::{ShortText, Text};
@@ -85,6 +85,7 @@ impl Kept {
         (made == c::FLUENT_READ).then(|| Kept(Mutex::new(asked)))
     }
 
+    #[inline]
     fn asked(&self) -> MutexGuard<'_, Asked> {
         // Between any two calls of the library, what is under the lock is as a call leaves it.
         self.0.lock().unwrap_or_else(PoisonError::into_inner)
@@ -99,10 +100,10 @@ impl Kept {
         mut answer: impl FnMut(&str) -> Option<FluentValue<'static>>,
         took: impl FnOnce(&mut Text, &str) -> T,
     ) -> Result<T, Refusal> {
-        let mut answers: Option<FluentArgs<'static>> = None;
+        let mut answers = FluentArgs::new();
         loop {
             let mut asked = self.asked();
-            let answered = asked.ask(pattern, args, answers.as_ref().unwrap_or(NONE));
+            let answered = asked.ask(pattern, args, &answers);
             match answered {
                 c::FLUENT_READ => {
                     let Asked { text, errors, .. } = &mut *asked;
@@ -114,11 +115,10 @@ impl Kept {
             }
             let mut calls = asked.call.as_str().to_owned();
             // A message with one call isn't asked for others.
-            if let Some(answers) = &answers {
-                asked.list_calls(pattern, args, answers, &mut calls);
+            if !answers.are_none() {
+                asked.list_calls(pattern, args, &answers, &mut calls);
             }
             drop(asked);
-            let answers = answers.get_or_insert_with(FluentArgs::new);
             for call in calls.lines() {
                 // A call that the message meets twice is listed twice.
                 if answers.get(call).is_none() {
@@ -155,7 +155,7 @@ impl Kept {
         &self,
         pattern: &Pattern,
         number: usize,
-        args: &FluentArgs<'_>,
+        args: &[c::FluentArgument],
         text: &mut ShortText,
         told: impl FnOnce(&str),
     ) -> u32 {
@@ -167,26 +167,24 @@ impl Kept {
             attribute_len: name.len(),
             number,
         };
-        args.with_c(|args| {
-            let mut asked = self.asked();
-            let Asked { handle, errors, .. } = &mut *asked;
-            let mut status = c::FLUENT_NO_MEMORY;
-            let write = |room: *mut u8, room_len, len: &mut usize| {
-                let (arguments, count) = (args.as_ptr(), args.len());
-                // SAFETY: each pointer is that of a slice of the length next to it, or of memory that the library only
-                // writes; all texts are `str`; and the handle holds a bundle, which is lent by `&mut`.
-                status = unsafe {
-                    c::fluent_bundle_write(handle, &pattern, arguments, count, room, room_len, len, errors.place())
-                };
-                status == c::FLUENT_READ
+        let mut asked = self.asked();
+        let Asked { handle, errors, .. } = &mut *asked;
+        let mut status = c::FLUENT_NO_MEMORY;
+        let write = |room: *mut u8, room_len, len: &mut usize| {
+            let (arguments, count) = (args.as_ptr(), args.len());
+            // SAFETY: each pointer is that of a slice of the length next to it, or of memory that the library only
+            // writes; all texts are `str`; and the handle holds a bundle, which is lent by `&mut`.
+            status = unsafe {
+                c::fluent_bundle_write(handle, &pattern, arguments, count, room, room_len, len, errors.place())
             };
-            // SAFETY: the library has written the bytes of a `String` then, and how many they are.
-            let is_written = unsafe { text.be_written(write) };
-            if is_written && errors.is_there() {
-                told(errors.as_str());
-            }
-            status
-        })
+            status == c::FLUENT_READ
+        };
+        // SAFETY: the library has written the bytes of a `String` then, and how many they are.
+        let is_written = unsafe { text.be_written(write) };
+        if is_written && errors.is_there() {
+            told(errors.as_str());
+        }
+        status
     }
 
     /// Returns a text whose memory the next answer uses.

@@ -136,7 +136,7 @@ impl<'l> Entry<'l> {
 }
 
 /// Where the line ends that begins at a place.
-fn line_end(lines: &str, start: usize) -> Option<usize> {
+pub(crate) fn line_end(lines: &str, start: usize) -> Option<usize> {
     /// A byte eight times.
     const fn each(byte: u8) -> u64 {
         u64::from_le_bytes([byte; 8])

@@ -112,13 +112,25 @@ impl FluentNumber {
         })
     }
 
+    /// The integer that the number is, if it has no digits after the point. A large one may be left out.
+    #[inline]
+    pub(crate) fn plain_integer(&self) -> Option<i64> {
+        /// Each integer up to this one is a float of its own.
+        const MOST: f64 = 9_007_199_254_740_992.0;
+        let integer = match self.options.written.0 {
+            Some(decimal) => decimal.signed()?,
+            None if self.value.abs() <= MOST => self.value as i64,
+            None => return None,
+        };
+        (self.options.minimum_fraction_digits.is_none() && integer as f64 == self.value).then_some(integer)
+    }
+
     /// The number, as it is passed to the library.
     #[inline]
     pub(crate) fn given(&self) -> Given {
-        let (written, least) = (self.written(), self.options.minimum_fraction_digits);
-        match written.and_then(Decimal::signed) {
-            Some(integer) if least.is_none() => Given::Signed(integer),
-            _ => self.given_as(written, least),
+        match self.plain_integer() {
+            Some(integer) => Given::Signed(integer),
+            None => self.given_as(self.written(), self.options.minimum_fraction_digits),
         }
     }
 
@@ -152,6 +164,7 @@ impl FluentNumber {
     }
 
     /// Whether there is an option but for the digits after the point.
+    #[inline]
     pub(crate) fn has_more_options(&self) -> bool {
         self.options.are_more()
     }
@@ -291,6 +304,30 @@ mod tests {
         assert_eq!(FluentValue::from(5_u64), FluentValue::from(5.0));
         assert_ne!(FluentValue::from(5), FluentValue::try_number("5.0"));
         assert_ne!(FluentNumber::from(f64::NAN), FluentNumber::from(f64::NAN));
+    }
+
+    #[test]
+    fn plain_integers_are_those_that_are_given() {
+        let exact = 1_i64 << 53;
+        let values = [0.0, -0.0, 5.0, -3.0, 0.5, 1e300, f64::NAN, f64::INFINITY, exact as f64, (2 * exact) as f64];
+        let numbers = values
+            .map(FluentNumber::from)
+            .into_iter()
+            .chain([0, -5, exact, exact + 1, -exact - 1, i64::MAX, -i64::MAX].map(FluentNumber::from));
+        for number in numbers {
+            let slowly = number.given_as(number.written(), number.options.minimum_fraction_digits);
+            match (number.plain_integer(), slowly) {
+                (Some(integer), Given::Signed(given)) => assert_eq!(integer, given),
+                (Some(integer), _) => panic!("{integer}"),
+                (None, _) => {}
+            }
+        }
+        assert_eq!(FluentNumber::from(-5).plain_integer(), Some(-5));
+        assert_eq!(FluentNumber::from(exact + 1).plain_integer(), Some(exact + 1));
+        assert_eq!(FluentNumber::from(2.0).plain_integer(), Some(2));
+        assert_eq!(FluentNumber::from_str("5.0").map(|number| number.plain_integer()), Ok(None));
+        let changed = FluentNumber { value: 6.0, ..FluentNumber::from(5) };
+        assert_eq!(changed.plain_integer(), None);
     }
 
     #[test]

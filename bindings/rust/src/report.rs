@@ -90,10 +90,13 @@ impl<'l> Reader<'l> {
         self.expect('"')?;
         let mut text = String::new();
         loop {
+            let left = self.0.as_str();
+            let end = left.bytes().position(|byte| matches!(byte, b'"' | b'\\'))?;
+            text.push_str(&left[..end]);
+            self.0 = left[end..].chars();
             match self.0.next()? {
                 '"' => return Some(text),
-                '\\' => text.push(self.escaped()?),
-                other => text.push(other),
+                _ => text.push(self.escaped()?),
             }
         }
     }

@@ -25,7 +25,9 @@ pub(crate) const SHOWN: &str = "VALUE-SHOWN";
 
 /// A source in which functions have the names of [`Names`]. It has the same errors, at other places.
 pub(crate) fn rewritten(source: &str, names: &Names<'_>) -> String {
-    let mut scan = Scan { source, names, at: 0, made: String::with_capacity(source.len() + 64), open: Vec::new() };
+    // There is room for some longer names.
+    let made = String::with_capacity(source.len() + source.len() / 8 + 64);
+    let mut scan = Scan { source, names, at: 0, made, open: Vec::new() };
     while scan.at < source.len() {
         scan.step();
     }
@@ -77,7 +79,8 @@ impl Scan<'_> {
                 self.copy_to(self.at + 1);
             }
             _ if self.open.last() == Some(&Inside::Expression) => self.step_in_expression(byte),
-            _ => self.copy_to(self.next_char(self.at)),
+            b'\n' => self.copy_to(self.at + 1),
+            _ => self.copy_to(self.text_end(self.at)),
         }
     }
 
@@ -186,6 +189,11 @@ impl Scan<'_> {
 
     fn line_end(&self, from: usize) -> usize {
         self.end_of(from, |byte| byte != b'\n')
+    }
+
+    /// Where a text ends in its line.
+    fn text_end(&self, from: usize) -> usize {
+        self.end_of(from, |byte| !matches!(byte, b'{' | b'}' | b'\n'))
     }
 
     fn next_char(&self, from: usize) -> usize {

@@ -1,11 +1,14 @@
 //! Arguments in any number and order, set once and again: each message shows those that were set last.
 
-use kozhvadi::types::{FluentNumber, FluentNumberOptions};
+use kozhvadi::types::{FluentNumber, FluentNumberOptions, FluentNumberStyle};
 use kozhvadi::{FluentArgs, FluentBundle, FluentResource, FluentValue};
 use std::borrow::Cow;
 use std::collections::BTreeMap;
 
-const NAMES: [&str; 10] = ["count", "name", "a", "z", "b", "sender", "", "é", "name2", "n"];
+const NAMES: [&str; 20] = [
+    "count", "name", "a", "z", "b", "sender", "", "é", "name2", "n", "k", "nam", "c", "y", "na", "x", "d", "m", "w",
+    "e",
+];
 
 /// A bundle whose message shows all names but the empty one, which no message has.
 fn bundle() -> FluentBundle {
@@ -65,9 +68,9 @@ impl Chance {
 #[test]
 fn arguments_in_any_order() {
     let (bundle, mut chance) = (bundle(), Chance(7));
-    for round in 0..4000 {
+    for round in 0..2000 {
         let (mut args, mut set) = (FluentArgs::new(), BTreeMap::new());
-        for _ in 0..chance.below(12) {
+        for _ in 0..chance.below(24) {
             let (name, (value, shown)) = (NAMES[chance.below(NAMES.len())], value(chance.below(9)));
             match round % 2 {
                 0 => args.set(name, value),
@@ -118,4 +121,31 @@ fn threads_share_arguments_that_are_sent() {
             scope.spawn(move || assert_eq!(text(bundle, &args), expected(set)));
         }
     });
+}
+
+#[test]
+fn arguments_change_after_they_were_asked_for() {
+    let bundle = bundle();
+    let percent = FluentNumberOptions { style: FluentNumberStyle::Percent, ..FluentNumberOptions::default() };
+    let mut args = FluentArgs::new();
+    args.set("z".to_owned(), "Z".to_owned());
+    args.set("a".to_owned(), 1.5);
+    let large = 1e300.to_string();
+    for (value, shown) in [
+        (FluentValue::from(5), "5"),
+        (FluentNumber::new(0.5, percent).into(), "50%"),
+        ("Jane".into(), "Jane"),
+        (FluentValue::Error, ""),
+        (1e300.into(), &large),
+    ] {
+        args.set("n", value);
+        let set = BTreeMap::from([("a", "1.5"), ("n", shown), ("z", "Z")]);
+        for _ in 0..3 {
+            assert_eq!(text(&bundle, &args), expected(&set));
+        }
+        // What is kept goes along.
+        args = std::thread::spawn(move || args).join().expect("It ends.");
+    }
+    let names: Vec<&str> = args.iter().map(|(name, _)| name).collect();
+    assert_eq!(names, ["a", "n", "z"]);
 }

@@ -1,6 +1,7 @@
 pub mod InOrder
 pub mod Kept
 pub mod Silencing
+pub mod Quiet
 pub mod Lists
 pub mod Severities
 pub mod Trees

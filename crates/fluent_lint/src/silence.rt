@@ -13,6 +13,7 @@ use crate::reported::order;
 use crate::scopes::{after_line, lines_of, silencing};
 use crate::table::sum;
 use lint_findings::{Finding, Severity};
+use memchr::memmem;
 use std::alloc::{AllocError, Global};
 
 /// Leaves out the findings of a source that its comments leave out, and adds those of comments that
@@ -90,10 +91,13 @@ impl Silence<'_> {
     }
 }
 
-/// What the comments of a source leave out, in their order.
+/// What the comments of a source leave out, in their order. Most sources have no such comment.
 fn silences_of<'s>(alloc: Global, source: &'s str) -> Result<Vec<Silence<'s>>, AllocError>
     ensures { IfOk result (λ made. silences_view made.items ≡ silences source.now) }
 {
+    if memmem::find(source.as_bytes(), b"lint-ignore:").is_none() {
+        return Ok(Vec::new(alloc));
+    }
     let lines = lines_of(alloc, source)?;
     let end = sum(source.len(), 1)?;
     silences_in(alloc, end, &lines)

@@ -11,7 +11,7 @@ use Rattle.fluent_project.specs.declared.pairs.Source.{Source as CodeSource}
 use Rattle.fluent_project.specs.declared.pairs.Patterns.{Patterns}
 use Rattle.fluent_project.specs.Folders.{folder}
 use Rattle.fluent_project.specs.PairViews.{AddsAll, AddsSaid, IsTranslation, said_in}
-use Rattle.fluent_project.specs.Pairs.{Rule, Said, Source, alone_as, alone_by, file, first_said, has_translation, is_about, said_or, translation_by}
+use Rattle.fluent_project.specs.Pairs.{Rule, Said, Source, alone_as, alone_by, file, has_translation, is_about, said_or, translation_by}
 use Rattle.fluent_project.specs.Patterns.{Text, filled}
 use Rattle.fluent_project.specs.Taking.{taken, takes}
 use Rattle.fluent_project.proofs.SaidOf.{adds_none}

@@ -1,5 +1,5 @@
 -- What follows a folder and its slash is a text if the path is one.
-use Rattle.std.proofs.Common.{◌≡◌, ◌∙◌, ℕ, ◌+◌, ◌<◌, ◌++◌, Bool, true, false, List, [], ◌∷◌, Option, Some, None, Bor, option_map, length, drop, get_or, refl, ap, sym, subst, arith, length-append}
+use Rattle.std.proofs.Common.{◌≡◌, ◌∙◌, ℕ, ◌+◌, ◌<◌, ◌++◌, Bool, true, false, [], ◌∷◌, Option, Some, None, Bor, option_map, length, get_or, refl, ap, sym, subst, arith, length-append}
 use Rattle.std.specs.Prelude.{if◌then◌else◌, is_some, option_and_then, unwrap_or, IfSome}
 use Rattle.std.specs.Prelude.{MatchResult, Result, Ok, Err}
 use Rattle.std.specs.Result.{result_ok}

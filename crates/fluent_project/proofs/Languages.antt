@@ -1,15 +1,14 @@
 -- What is put into patterns, and which languages share paths.
-use Rattle.std.proofs.Common.{◌≡◌, ◌∙◌, ℕ, ◌++◌, Bool, true, false, List, [], ◌∷◌, length, drop, map, refl, ap, sym, subst}
+use Rattle.std.proofs.Common.{◌≡◌, ◌∙◌, ℕ, ◌++◌, Bool, true, false, List, [], ◌∷◌, length, drop, map, refl, ap, sym}
 use Rattle.std.specs.Prelude.{◌&&◌, if◌then◌else◌, not}
 use Rattle.std.proofs.Math.Seq.{drop-append_seam}
 use Rattle.std.proofs.lemmas.Bool.{and_parts, false≢true}
-use Rattle.std.proofs.lemmas.List.{append_assoc}
 use Rattle.fluent_project.specs.declared.part.Part.{Part}
 use Rattle.fluent_project.specs.declared.part.Part.TheVariants as part
 use Rattle.fluent_project.specs.declared.part.Wildcard.{Wildcard}
 use Rattle.fluent_project.specs.declared.part.Wildcard.TheVariants.{Star}
 use Rattle.fluent_project.specs.Laws.{LanguagesAreApart, OneLanguageStands, TextsCarryOver, for_language, wildcards}
-use Rattle.fluent_project.specs.Patterns.{IsMatch, Matches, Text, filled, is_slash, may_be, suit}
+use Rattle.fluent_project.specs.Patterns.{Matches, Text, filled, is_slash, may_be, suit}
 
 -- ---- texts suit by the wildcards alone
 

@@ -1,5 +1,5 @@
 -- A pattern, token by token.
-use Rattle.std.proofs.Common.{◌≡◌, ◌∙◌, ℕ, zero, suc, ◌-◌, ◌≤◌, ◌++◌, Bool, List, [], ◌∷◌, Option, Some, Result, Ok, Err, length, take, drop, refl, ap, sym, arith, length-drop}
+use Rattle.std.proofs.Common.{◌≡◌, ◌∙◌, ℕ, zero, suc, ◌-◌, ◌≤◌, ◌++◌, Bool, List, [], ◌∷◌, Some, Result, Ok, Err, length, take, drop, refl, ap, sym, arith, length-drop}
 use Rattle.std.specs.Prelude.{IfErr}
 use Rattle.std.proofs.lemmas.List.{append_assoc, take_all}
 use Rattle.fluent_project.specs.declared.part.Part.{Part}

@@ -1,5 +1,5 @@
 -- What a map says of a path once files were taken out.
-use Rattle.std.proofs.Common.{◌≡◌, ◌∙◌, ℕ, ◌+◌, ◌<◌, ◌≤◌, Bool, true, false, List, [], ◌∷◌, ◌++◌, Option, Some, None, Bor, cond, length, drop, get_or, option_map, refl, ap, subst, sym, drop-cons, add-one}
+use Rattle.std.proofs.Common.{◌≡◌, ◌∙◌, ℕ, ◌+◌, ◌<◌, ◌≤◌, Bool, true, false, List, [], ◌∷◌, ◌++◌, Option, None, Bor, cond, length, drop, get_or, option_map, refl, ap, subst, sym, drop-cons, add-one}
 use Rattle.std.specs.Prelude.{String, string_bytes, if◌then◌else◌, ◌&&◌, ◌||◌, not}
 use Rattle.std.specs.Global.{Global}
 use Rattle.std.specs.Str.{IsUtf8, bytes_eq}

@@ -1,5 +1,5 @@
 -- A path of a pattern begins with the folder of the pattern.
-use Rattle.std.proofs.Common.{◌≡◌, ◌∙◌, ℕ, ◌++◌, Bool, true, false, List, [], ◌∷◌, length, take, drop, refl, ap, sym, subst}
+use Rattle.std.proofs.Common.{◌≡◌, ◌∙◌, ◌++◌, Bool, true, false, List, [], ◌∷◌, length, take, drop, refl, ap, sym, subst}
 use Rattle.std.specs.Prelude.{if◌then◌else◌, nat_eq, not, unwrap_or}
 use Rattle.std.specs.List.{starts_with}
 use Rattle.std.specs.Cmp.Lexicographic.{nat_list_eq_equiv, pointwise}
@@ -10,7 +10,7 @@ use Rattle.fluent_project.specs.declared.part.Part.{Part}
 use Rattle.fluent_project.specs.declared.part.Part.TheVariants as part
 use Rattle.fluent_project.specs.Checks.{has_no_wildcard, has_wildcard}
 use Rattle.fluent_project.specs.Folders.{before_slash, folder, front, last_slash}
-use Rattle.fluent_project.specs.Patterns.{IsMatch, Matches, Text, filled}
+use Rattle.fluent_project.specs.Patterns.{Matches, Text, filled}
 use Rattle.fluent_project.specs.Taking.{takes}
 use Rattle.fluent_project.proofs.Taken.{found_if_taken}
 

@@ -1,15 +1,14 @@
 -- What `*` takes in the place of `{locale}`.
-use Rattle.std.proofs.Common.{◌≡◌, ◌∙◌, ℕ, zero, suc, ◌<◌, ◌≤◌, Bool, true, false, List, [], ◌∷◌, Option, Some, None, Vec, Bor, length, get_or, refl, ap, sym, subst, arith}
+use Rattle.std.proofs.Common.{◌≡◌, ◌∙◌, ℕ, zero, suc, ◌<◌, ◌≤◌, true, List, [], ◌∷◌, Option, Some, None, Vec, Bor, length, get_or, refl, ap, sym, subst, arith}
 use Rattle.std.specs.Prelude.{if◌then◌else◌, is_some, unwrap_or}
 use Rattle.std.specs.Global.{Global}
 use Rattle.std.proofs.lemmas.Bool.{and_parts, false≢true}
 use Rattle.fluent_project.specs.declared.part.Part.{Part}
 use Rattle.fluent_project.specs.declared.part.Part.TheVariants as part
-use Rattle.fluent_project.specs.declared.part.Wildcard.{Wildcard}
 use Rattle.fluent_project.specs.declared.part.Wildcard.TheVariants.{Star}
 use Rattle.fluent_project.specs.Locales.{one_more, tag_in, text_at, text_in, wildcards_before, with_star}
 use Rattle.fluent_project.specs.Patterns.{Text, may_be, suit}
-use Rattle.fluent_project.specs.Taking.{taken, takes}
+use Rattle.fluent_project.specs.Taking.{taken}
 use Rattle.fluent_project.specs.Views.{FindsLongest, FindsTaken, plain}
 
 none_some : {X : Type 0} {x : X} → None ≡ Some x → ⊥

@@ -14,10 +14,16 @@ key_in (inside name index key) = key
 abbrev pub of_key : Text → Text → Text
 of_key key said = codes "`" ++ (key ++ (codes "`" ++ said))
 
--- what a table has to do with the key
+-- what the file, or a table, has to do with the key
+abbrev pub of_file : Text → Text → Text
+of_file said key = codes "the file " ++ (said ++ (codes " `" ++ (key ++ codes "`")))
+
+abbrev pub of_tables : Text → Text → Text → Text
+of_tables name said key = codes "[[" ++ (name ++ (codes "]] " ++ (said ++ (codes " `" ++ (key ++ codes "`")))))
+
 abbrev pub of_table : Text → Place → Text
-of_table said (top key) = codes "the file " ++ (said ++ (codes " `" ++ (key ++ codes "`")))
-of_table said (inside name index key) = codes "[[" ++ (name ++ (codes "]] " ++ (said ++ (codes " `" ++ (key ++ codes "`")))))
+of_table said (top key) = of_file said key
+of_table said (inside name index key) = of_tables name said key
 
 -- what is said of a key alone
 abbrev pub said_of : FaultKind → Option Text

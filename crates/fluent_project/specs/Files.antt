@@ -1,5 +1,5 @@
 -- What the file of a project says.
-use Rattle.std.specs.Prelude.{ℕ, ◌+◌, if◌then◌else◌, List, [], ◌∷◌, Option, Some, None, Result, Ok, Err, codes, ok_or, option_and_then, option_map}
+use Rattle.std.specs.Prelude.{ℕ, ◌+◌, if◌then◌else◌, List, [], ◌∷◌, Option, Some, None, Result, Ok, Err, codes, ok_or, option_and_then}
 use Rattle.toml.specs.Data.{Data, Items, Members, no_items, item, no_members, member, as_array, as_str, as_table, get_member}
 use Rattle.fluent_project.specs.declared.faults.FaultKind.{FaultKind}
 use Rattle.fluent_project.specs.declared.faults.FaultKind.TheVariants.{NoText, NoTexts, NoLanguages, NoList, NoAction, NoTable, NoTables, Missing, Unknown}

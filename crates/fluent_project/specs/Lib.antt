@@ -21,3 +21,4 @@ pub mod TextViews
 pub mod Resolving
 pub mod FilterViews
 pub mod FaultTexts
+pub mod RuleLanguages

@@ -1,5 +1,5 @@
 -- Patterns without the names that stand for the same folder or the one above.
-use Rattle.std.specs.Prelude.{ℕ, suc, Bool, true, false, ◌||◌, ◌==◌, ◌&&◌, if◌then◌else◌, not, List, [], ◌∷◌, ◌++◌, Option, Some, None, map, take}
+use Rattle.std.specs.Prelude.{ℕ, suc, Bool, true, false, ◌==◌, ◌&&◌, if◌then◌else◌, not, List, [], ◌∷◌, ◌++◌, Option, Some, None, map, take}
 use Rattle.fluent_project.specs.declared.part.Part.{Part}
 use Rattle.fluent_project.specs.declared.part.Part.TheVariants as part
 use Rattle.fluent_project.specs.declared.part.Wildcard.TheVariants.{Star, Folders, Rest}

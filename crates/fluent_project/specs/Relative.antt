@@ -1,5 +1,5 @@
 -- A path as it is seen from a folder.
-use Rattle.std.specs.Prelude.{◌≡◌, Bool, true, false, if◌then◌else◌, List, [], ◌∷◌, ◌++◌, Option, Some, None, codes, option_and_then, unwrap_or}
+use Rattle.std.specs.Prelude.{◌≡◌, Bool, true, false, if◌then◌else◌, [], ◌∷◌, ◌++◌, Option, Some, None, codes, option_and_then, unwrap_or}
 use Rattle.fluent_project.specs.Folders.{before_slash}
 use Rattle.fluent_project.specs.Patterns.{Text, is_slash}
 use Rattle.fluent_project.specs.Taking.{after}

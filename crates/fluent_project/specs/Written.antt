@@ -1,10 +1,9 @@
 -- How a pattern of paths is written.
-use Rattle.std.specs.Prelude.{ℕ, zero, suc, Bool, true, false, ◌≡◌, ◌&&◌, ◌==◌, ◌-◌, ◌++◌, if◌then◌else◌, List, [], ◌∷◌, Option, Some, None, Result, Ok, Err, length, take, drop, codes, option_map}
+use Rattle.std.specs.Prelude.{ℕ, zero, suc, Bool, true, false, ◌&&◌, ◌==◌, ◌-◌, ◌++◌, if◌then◌else◌, List, [], ◌∷◌, Option, Some, None, Result, Ok, Err, length, take, drop, codes, option_map}
 use Rattle.std.specs.Char.{is_ascii_whitespace}
 use Rattle.std.specs.List.{position, prefix_len, suffix_len}
 use Rattle.fluent_project.specs.declared.part.Part.{Part}
 use Rattle.fluent_project.specs.declared.part.Part.TheVariants as part
-use Rattle.fluent_project.specs.declared.part.Wildcard.{Wildcard}
 use Rattle.fluent_project.specs.declared.part.Wildcard.TheVariants.{Star, Folders, Rest}
 use Rattle.fluent_project.specs.Patterns.{Text, is_slash}
 

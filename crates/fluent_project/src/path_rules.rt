@@ -1,8 +1,10 @@
 //! The rules of a project's file: which files are translated from which.
 
-ghost use Rattle.std.specs.Prelude.{◌≡◌, IfErr, IfOk, Ok};
-ghost use Rattle.fluent_project.specs.FileViews.{IsRefusedBy};
+ghost use Rattle.std.specs.Prelude.{◌≡◌, IfErr, IfOk, Ok, OnOk};
+ghost use Rattle.fluent_project.specs.FileViews.{IsRefusedBy, maybe_texts};
+ghost use Rattle.fluent_project.specs.PlaceViews.{texts};
 ghost use Rattle.fluent_project.specs.Resolving.{pattern_by};
+ghost use Rattle.fluent_project.specs.RuleLanguages.{AppendsThoseIn, in_both, those_in};
 
 use crate::checks::{has_locale, have_same_wildcards};
 use crate::faults::{FaultKind, FileError};
@@ -107,16 +109,60 @@ fn in_both<'f>(
     alloc: Global,
     locales: &Option<Vec<&'f str>>,
     languages: &Option<Vec<&'f str>>,
-) -> Result<Option<Vec<&'f str>>, AllocError> {
-    let (locales, languages) = match (locales, languages) {
-        (None, None) => return Ok(None),
-        (Some(all), None) | (None, Some(all)) => return Ok(Some(Vec::from_slice(alloc, all)?)),
-        (Some(locales), Some(languages)) => (locales, languages),
-    };
-    let both = locales
-        .iter()
-        .copied()
-        .filter(|locale| is_among(locale, languages))
-        .collect(alloc)?;
-    Ok(Some(both))
+) -> Result<Option<Vec<&'f str>>, AllocError>
+    ensures { IfOk result (λ both.
+        maybe_texts both ≡ in_both (maybe_texts locales.now) (maybe_texts languages.now)) }
+{
+    match locales {
+        None => copied(alloc, languages),
+        Some(all) => match languages {
+            None => copied(alloc, locales),
+            Some(languages) => Ok(Some(those_in(alloc, all, languages)?)),
+        },
+    }
+}
+
+/// A copy of a list, if there is one.
+fn copied<'f>(
+    alloc: Global,
+    list: &Option<Vec<&'f str>>,
+) -> Result<Option<Vec<&'f str>>, AllocError>
+    ensures { IfOk result (λ copy. maybe_texts copy ≡ maybe_texts list.now) }
+{
+    match list {
+        Some(list) => Ok(Some(Vec::from_slice(alloc, list)?)),
+        None => Ok(None),
+    }
+}
+
+/// Those of these languages that are among others, in their order.
+fn those_in<'f>(
+    alloc: Global,
+    locales: &[&'f str],
+    languages: &[&str],
+) -> Result<Vec<&'f str>, AllocError>
+    ensures { IfOk result (λ both. texts both.items ≡ those_in (texts languages.now) (texts locales.now)) }
+{
+    let mut both = Vec::new(alloc);
+    push_those_in(locales, languages, &mut both)?;
+    Ok(both)
+}
+
+/// Appends those of these languages that are among others.
+fn push_those_in<'f>(
+    locales: &[&'f str],
+    languages: &[&str],
+    both: &mut Vec<&'f str>,
+) -> Result<(), AllocError>
+    ensures { OnOk result (AppendsThoseIn languages.now locales.now both.old.items both.new.items) }
+{
+    match locales {
+        [] => Ok(()),
+        [locale, rest @ ..] => {
+            if is_among(locale, languages) {
+                both.push(*locale)?;
+            }
+            push_those_in(rest, languages, both)
+        }
+    }
 }

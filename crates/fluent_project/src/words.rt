@@ -1,7 +1,7 @@
 //! What is wrong with the file of a project, in words.
 
 ghost use Rattle.std.specs.Prelude.{◌≡◌, OnOk, option_map};
-ghost use Rattle.fluent_project.specs.FaultTexts.{Appends, fault_text, key_in, of_key, of_table, of_variable, other_text, patterns_text, said_of};
+ghost use Rattle.fluent_project.specs.FaultTexts.{Appends, fault_text, key_in, of_file, of_key, of_table, of_tables, of_variable, other_text, patterns_text, said_of};
 ghost use Rattle.fluent_project.specs.PlaceViews.{place_view};
 
 use crate::faults::{Fault, FaultKind};
@@ -101,7 +101,21 @@ fn push_of_table(text: &mut String, place: Place<'_>, what: &str) -> Result<(), 
     ensures { OnOk result (Appends text.old text.new (of_table what.now (place_view place.entry))) }
 {
     match place {
-        Place::Top(key) => write!(text, "the file {what} `{key}`"),
-        Place::Inside { name, key, .. } => write!(text, "[[{name}]] {what} `{key}`"),
+        Place::Top(key) => push_of_file(text, what, key),
+        Place::Inside { name, key, .. } => push_of_tables(text, name, what, key),
     }
+}
+
+/// Appends what the file has to do with a key.
+fn push_of_file(text: &mut String, what: &str, key: &str) -> Result<(), AllocError>
+    ensures { OnOk result (Appends text.old text.new (of_file what.now key.now)) }
+{
+    write!(text, "the file {what} `{key}`")
+}
+
+/// Appends what the tables of a name have to do with a key.
+fn push_of_tables(text: &mut String, name: &str, what: &str, key: &str) -> Result<(), AllocError>
+    ensures { OnOk result (Appends text.old text.new (of_tables name.now what.now key.now)) }
+{
+    write!(text, "[[{name}]] {what} `{key}`")
 }

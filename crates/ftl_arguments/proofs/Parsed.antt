@@ -15,9 +15,11 @@ use Rattle.ftl_arguments.specs.declared.errors.CommandError.TheVariants.{Memory,
 use Rattle.ftl_arguments.specs.Meaning.{Asked, asked_of, command_of, explained_of, faults_of, without_faults}
 
 program_is_simple : is_simple program_app ≡ true
+unfolding program_app
 program_is_simple = refl
 
 program_is_free : is_simple_and_free program_app ≡ true
+unfolding program_app
 program_is_free = refl
 
 module _ (app : App) (is : app ≡ program_app) (words : List Text) where

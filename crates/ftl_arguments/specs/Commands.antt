@@ -116,7 +116,7 @@ abbrev pub bare_program : App
 bare_program =
     on_top (λ s. record s { has_version = true; no_binary_name = true; subcommand_required = true }) (new_app (codes "ftl"))
 
-abbrev pub program_app : App
+unfoldable pub program_app : App
 program_app = record {
   top = record bare_program.top { is_leaf = false };
   subs = run_shape

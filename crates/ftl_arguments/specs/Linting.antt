@@ -31,7 +31,7 @@ pub record Lint : Type 0 where
   pub files : List Text
 
 -- the codes that findings have
-abbrev pub finding_codes : List Text
+unfoldable pub finding_codes : List Text
 finding_codes =
     codes "syntax" ∷ codes "byte-order-mark" ∷ codes "duplicate-id" ∷ codes "unknown-message" ∷ codes "unknown-term"
     ∷ codes "unknown-attribute" ∷ codes "no-value" ∷ codes "no-default" ∷ codes "cyclic-reference" ∷ codes "unknown-function" ∷ codes "duplicate-attribute"

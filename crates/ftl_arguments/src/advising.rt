@@ -7,7 +7,7 @@ use clap::{ArgMatches, Error};
 use std::alloc::{AllocError, Global};
 
 /// The commands that have help of their own.
-const COMMANDS: [&str; 11] = [
+static COMMANDS: [&str; 11] = [
     "run",
     "format",
     "check",

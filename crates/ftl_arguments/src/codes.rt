@@ -145,7 +145,8 @@ fn push_text_codes(codes: &mut Vec<&str>) -> Result<(), AllocError>
 }
 
 /// The codes that findings have.
-fn all_codes() -> &'static [&'static str]
+#[tactic(auto, unfolding(crate::specs::Linting::finding_codes))]
+pub(crate) fn all_codes() -> &'static [&'static str]
     ensures { texts result.now ≡ finding_codes }
 {
     &CODES
@@ -176,7 +177,7 @@ fn push_others<'words>(
 }
 
 /// Whether a code is among these.
-fn is_among(codes: &[&str], code: &str) -> bool
+pub(crate) fn is_among(codes: &[&str], code: &str) -> bool
     ensures { result ≡ is_among (texts codes.now) code.now }
 {
     match codes {

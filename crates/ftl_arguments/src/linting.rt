@@ -9,7 +9,7 @@ ghost use Rattle.ftl_arguments.specs.Meaning.{texts};
 ghost use Rattle.ftl_arguments.specs.CommandView.{found_rows, lint_view, IfRefused};
 ghost use Rattle.lint_report.specs.Formats.{format_view};
 
-use crate::codes::{ignored_in, is_any};
+use crate::codes::{all_codes, ignored_in, is_among, is_any};
 use crate::commands::Lint;
 use crate::explaining::asks_explanation;
 use crate::reading::{WordsError, is_given, locale_in, values_in};
@@ -185,7 +185,7 @@ pub(crate) fn is_code(name: &str) -> bool
 pub(crate) fn is_finding_code(name: &str) -> bool
     ensures { result ≡ is_finding_code name.now }
 {
-    CODES.contains(&name)
+    is_among(all_codes(), name)
 }
 
 /// Whether messages can call a function by each of these names.

@@ -22,7 +22,7 @@ use clap::{ArgMatches, Error};
 use std::alloc::{AllocError, Global};
 
 /// Why what `clap` found for a command is none.
-#[derive(Drop)]
+#[derive(Clone, Copy)]
 pub(crate) enum WordsError {
     /// Memory ran out.
     Memory,

@@ -1,15 +1,14 @@
 //! What `clap` lets pass, and the program doesn't.
 
-use crate::linting::{
-    CODES, colours_named, format_named, is_code, is_finding_code, is_function_name,
-};
+use crate::codes::all_codes;
+use crate::linting::{colours_named, format_named, is_code, is_finding_code, is_function_name};
 use crate::projects::{names_project, table_format_named};
 use clap::ArgMatches;
 use std::alloc::{AllocError, Global};
 use strsim::jaro;
 
 /// What the program refuses of a command.
-#[derive(Drop)]
+#[derive(Clone, Copy)]
 pub(crate) enum Refused<'words> {
     /// The value of an option, which takes something else.
     Value {
@@ -252,7 +251,7 @@ fn reason_of_code(alloc: Global, option: &str, code: &str) -> Result<String, All
 fn near_code(alloc: Global, code: &str) -> Result<Option<&'static str>, AllocError> {
     let mut near = None;
     let mut likeness = 0.7;
-    for &known in &CODES {
+    for &known in all_codes() {
         let score = jaro(alloc, code, known)?;
         if score > likeness {
             likeness = score;

@@ -16,3 +16,4 @@ pub mod LossesAdded
 pub mod PlainTexts
 pub mod TextsFound
 pub mod FoundPieces
+pub mod SameNames

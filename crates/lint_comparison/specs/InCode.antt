@@ -1,5 +1,5 @@
 -- The same of what the code has: ids, messages, their values and attributes.
-use Rattle.std.specs.Prelude.{◌≡◌, Bool, ◌&&◌, List, map, Option, option_map, Vec}
+use Rattle.std.specs.Prelude.{◌≡◌, Bool, ◌&&◌, List, map, Option, Some, option_map, Vec}
 use Rattle.std.specs.Global.{Global}
 use Rattle.std.specs.Str.{bytes_eq}
 use denote.Ref.{Bor}
@@ -16,8 +16,10 @@ use Rattle.lint_findings.specs.Occurrences.{pattern_read}
 use Rattle.fluent_grammar.specs.Refusal.{got}
 use Rattle.fluent_grammar.specs.Tree as t
 use Rattle.fluent_grammar.specs.Words.{Text}
+use Rattle.fluent_ids.specs.Found.{lent_message, message_in}
 use Rattle.fluent_ids.specs.IdsView.{ids_view}
 use Rattle.fluent_ids.specs.declared.ids.FluentIds.{FluentIds}
+use Rattle.fluent_meaning.specs.Ids.{find}
 use Rattle.fluent_meaning.specs.Same.{same_elements}
 use Rattle.lint_comparison.specs.Compared.{untranslated_if}
 use Rattle.lint_findings.specs.Comparison.{variable_differences}
@@ -39,6 +41,14 @@ module _ (ids : FluentIds (Unit {0})) where
   -- these names are those variables
   abbrev pub AreVariablesOf : Text → Names → Type 0
   AreVariablesOf id names = HasNames names (variables_by id)
+
+-- this was looked up under an id
+abbrev pub IsLookedUp : FluentIds (Unit {0}) → Text → Option (Bor (Message (Bor Text))) → Type 0
+IsLookedUp ids id found = lent_message found ≡ message_in (find (ids_view (Unit {0}) ids) id)
+
+-- an id stands for this message
+abbrev pub StandsFor : FluentIds (Unit {0}) → Text → Message (Bor Text) → Type 0
+StandsFor ids id message = message_in (find (ids_view (Unit {0}) ids) id) ≡ Some (message_of message)
 
 -- those of variables that are listed, by the message of this id in the reference
 abbrev pub AddsVariablesBy : Message (Bor Text) → Names → FluentIds (Unit {0}) → Text → Vec Difference Global → Vec Difference Global → Type 0

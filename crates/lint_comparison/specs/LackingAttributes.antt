@@ -2,7 +2,8 @@
 use denote.Ref.{Bor}
 use Rattle.fluent_ast.specs.Borrowed.{attributes_of}
 use Rattle.fluent_ast.specs.declared.Attribute.{Attribute}
-use Rattle.std.specs.Prelude.{List, [], map, Vec}
+use Rattle.std.specs.Prelude.{Bool, true, false, ◌&&◌, List, [], ◌∷◌, map, Vec}
+use Rattle.std.specs.Str.{bytes_eq}
 use Rattle.std.specs.Global.{Global}
 use Rattle.lint_findings.specs.declared.difference.Difference.{Difference}
 use Rattle.lint_findings.specs.Comparison.{union}
@@ -18,6 +19,12 @@ names_of as' = map (λ (a : t.Attribute). a.id) as'
 -- the names, each once
 abbrev pub known_names : List t.Attribute → List Text
 known_names as' = union [] (names_of as')
+
+-- these have the same names, in the same order
+abbrev pub have_same_names : List t.Attribute → List t.Attribute → Bool
+have_same_names [] [] = true
+have_same_names (a ∷ as') (b ∷ bs) = bytes_eq a.id b.id && have_same_names as' bs
+have_same_names _ _ = false
 
 -- those of attributes whose names aren't listed
 abbrev pub AddsLackingNames : Lack → List t.Attribute → Names → Vec Difference Global → Vec Difference Global → Type 0

@@ -1,10 +1,10 @@
 //! The attributes that one of two messages lacks.
 #![tactic(auto)]
 
-ghost use Rattle.std.specs.Prelude.{IfOk, OnOk};
+ghost use Rattle.std.specs.Prelude.{◌≡◌, IfOk, OnOk};
 ghost use Rattle.fluent_ast.specs.Borrowed.{attributes_of};
 ghost use Rattle.lint_nodes.specs.HasNames.{HasNames};
-ghost use Rattle.lint_comparison.specs.LackingAttributes.{AddsLackingOf, AddsLackingNames, known_names};
+ghost use Rattle.lint_comparison.specs.LackingAttributes.{AddsLackingOf, AddsLackingNames, have_same_names, known_names};
 
 use crate::lack::Lack;
 use fluent_ast::Attribute;
@@ -25,8 +25,26 @@ pub fn push_lacking_attributes<'i, 's: 'i>(
 ) -> Result<(), AllocError>
     ensures { OnOk result (AddsLackingOf lack.entry attributes.now others.now found.old found.new) }
 {
+    if have_same_names(attributes, others) {
+        return Ok(());
+    }
     let names = names_of(alloc, others)?;
     push_lacking(lack, attributes, &names, found)
+}
+
+/// Whether two lists of attributes have the same names, in the same order.
+fn have_same_names(attributes: &[Attribute<&str>], others: &[Attribute<&str>]) -> bool
+    ensures { result ≡ have_same_names (attributes_of attributes.now) (attributes_of others.now) }
+{
+    if attributes.len() != others.len() {
+        return false;
+    }
+    for (index, attribute) in attributes.iter().enumerate() {
+        if attribute.id.name != others[index].id.name {
+            return false;
+        }
+    }
+    true
 }
 
 /// Adds those whose names aren't among these.

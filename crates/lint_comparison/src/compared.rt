@@ -5,7 +5,7 @@ ghost use Rattle.std.specs.Prelude.{IfOk, OnOk};
 ghost use Rattle.fluent_ast.specs.Borrowed.{message_of};
 ghost use Rattle.lint_comparison.specs.Compared.{IsNewAmong, own_differences};
 ghost use Rattle.lint_nodes.specs.HasNames.{texts};
-ghost use Rattle.lint_comparison.specs.InCode.{AddsVariablesBy, AreDifferencesOf, AreVariablesOf, differences_by, message_differences_by, untranslated_by, values_difference, variables_between};
+ghost use Rattle.lint_comparison.specs.InCode.{AddsVariablesBy, AreDifferencesOf, AreVariablesOf, IsLookedUp, StandsFor, differences_by, message_differences_by, untranslated_by, values_difference, variables_between};
 ghost use Rattle.lint_comparison.specs.Lacks.{Adds};
 
 use crate::attributes::push_lacking_attributes;
@@ -14,7 +14,7 @@ use crate::same::is_same_message;
 use fluent_ast::{Message, Pattern};
 use fluent_ids::GetEntry;
 use lint_findings::{CatalogIds, Difference};
-use lint_nodes::{Names, variables_of};
+use lint_nodes::{Names, variables_of, variables_of_message};
 use std::alloc::{AllocError, Global};
 
 /// How an id of a catalog differs from that of the reference.
@@ -26,7 +26,7 @@ pub struct Comparison<'i> {
     pub variables: Names<'i>,
 }
 
-/// Compares an id of a catalog with that of the reference.
+/// Compares an id of a catalog with that of the reference, which stands for this message there.
 ///
 /// # Errors
 /// [`AllocError`] if memory runs out; nothing is kept.
@@ -34,15 +34,17 @@ pub fn compare<'i, 's: 'i>(
     alloc: Global,
     ids: &CatalogIds<'_, 's>,
     reference: &CatalogIds<'_, 's>,
+    other: Option<&Message<&'s str>>,
     id: &'i str,
 ) -> Result<Comparison<'i>, AllocError>
+    requires { IsLookedUp reference.now id.now other }
     ensures found { IfOk result
         (λ compared. AreDifferencesOf ids.now reference.now id.now compared.differences.items) }
     ensures known { IfOk result
         (λ compared. AreVariablesOf reference.now id.now compared.variables) }
 {
     let mut differences = Vec::new(alloc);
-    let variables = push_differences(alloc, ids, reference, id, &mut differences)?;
+    let variables = push_differences(alloc, ids, reference, other, id, &mut differences)?;
     Ok(Comparison {
         differences,
         variables,
@@ -54,15 +56,16 @@ fn push_differences<'i, 's: 'i>(
     alloc: Global,
     ids: &CatalogIds<'_, 's>,
     reference: &CatalogIds<'_, 's>,
+    other: Option<&Message<&'s str>>,
     id: &'i str,
     found: &mut Vec<Difference<'i>>,
 ) -> Result<Names<'i>, AllocError>
+    requires { IsLookedUp reference.now id.now other }
     ensures added { OnOk result
         (Adds found.old found.new (differences_by ids.now reference.now id.now)) }
     ensures known { IfOk result (AreVariablesOf reference.now id.now) }
 {
     let message = ids.get_entry_message(id);
-    let other = reference.get_entry_message(id);
     match (message, other) {
         (None, None) => Ok(Names::new(alloc)),
         (None, Some(_)) => {
@@ -89,12 +92,14 @@ fn push_of_both<'i, 's: 'i>(
     other: &Message<&'s str>,
     found: &mut Vec<Difference<'i>>,
 ) -> Result<Names<'i>, AllocError>
+    requires message { StandsFor ids.now id.now message.now }
+    requires other { StandsFor reference.now id.now other.now }
     ensures added { OnOk result (Adds found.old found.new
         (message_differences_by ids.now reference.now id.now message.now other.now)) }
     ensures known { IfOk result (AreVariablesOf reference.now id.now) }
 {
     push_of_message(alloc, message, other, found)?;
-    let variables = push_variables(alloc, ids, reference, id, other, found)?;
+    let variables = push_variables(alloc, ids, reference, id, message, other, found)?;
     push_untranslated(message, other, found)?;
     Ok(variables)
 }
@@ -137,14 +142,17 @@ fn push_variables<'i, 's: 'i>(
     ids: &CatalogIds<'_, 's>,
     reference: &CatalogIds<'_, 's>,
     id: &'i str,
+    message: &Message<&'s str>,
     other: &Message<&'s str>,
     found: &mut Vec<Difference<'i>>,
 ) -> Result<Names<'i>, AllocError>
+    requires message { StandsFor ids.now id.now message.now }
+    requires other { StandsFor reference.now id.now other.now }
     ensures added { OnOk result (Adds found.old found.new
         (variables_between ids.now reference.now id.now other.now)) }
     ensures known { IfOk result (AreVariablesOf reference.now id.now) }
 {
-    let variables = variables_of(alloc, ids, id)?;
+    let variables = variables_of_message(alloc, ids, id, message)?;
     push_variables_by(alloc, &variables, reference, id, other, found)
 }
 
@@ -158,11 +166,12 @@ fn push_variables_by<'i, 's: 'i>(
     other: &Message<&'s str>,
     found: &mut Vec<Difference<'i>>,
 ) -> Result<Names<'i>, AllocError>
+    requires { StandsFor reference.now id.now other.now }
     ensures added { OnOk result (AddsVariablesBy other.now variables.now reference.now id.now
         found.old found.new) }
     ensures known { IfOk result (AreVariablesOf reference.now id.now) }
 {
-    let others = variables_of(alloc, reference, id)?;
+    let others = variables_of_message(alloc, reference, id, other)?;
     Lack::UnknownVariable.push_new(&variables.list, &others, found)?;
     let has_unknown = has_new(&variables.list, &others);
     let lost = Lack::LostVariable { has_unknown, other };

@@ -4,7 +4,7 @@
 ghost use Rattle.std.specs.Prelude.{◌≡◌, ◌-◌, IfOk, length, map};
 ghost use Rattle.fluent_ast.specs.Borrowed.{message_of};
 ghost use Rattle.lint_comparison.specs.Found.{AreFindingsBy, IsFindingBy, IsMissingIn};
-ghost use Rattle.lint_comparison.specs.InCode.{AreFoundOf, AreMessageFindings};
+ghost use Rattle.lint_comparison.specs.InCode.{AreFoundOf, AreMessageFindings, IsLookedUp};
 ghost use Rattle.lint_comparison.specs.HasPlaces.{HasPlacesOf};
 ghost use Rattle.lint_findings.specs.DifferenceView.{difference_view};
 ghost use Rattle.lint_entries.specs.AttributePlaces.{IsEntryAt};
@@ -20,8 +20,8 @@ use lint_findings::{CatalogIds, Difference, Finding};
 use lint_nodes::Names;
 use std::alloc::{AllocError, Global};
 
-/// How a message of a catalog differs from that of the reference, as findings. The text is the
-/// source from the message on.
+/// How a message of a catalog differs from that of the reference, as findings. Its id stands for
+/// this other message there. The text is the source from the message on.
 ///
 /// # Errors
 /// [`AllocError`] if memory runs out; nothing is kept.
@@ -31,12 +31,14 @@ pub fn difference_findings<'s>(
     reference: &CatalogIds<'_, 's>,
     source: &str,
     message: &Message<&str>,
+    other: Option<&Message<&'s str>>,
     text: &[u8],
 ) -> Result<Vec<Finding>, AllocError>
-    requires { IsEntryAt (t.message (message_of message.now)) text.now }
+    requires text { IsEntryAt (t.message (message_of message.now)) text.now }
+    requires other { IsLookedUp reference.now message.now.id.name.now other }
     ensures { IfOk result (AreFoundOf ids.now reference.now source.now message.now text.now) }
 {
-    let compared = compare(alloc, ids, reference, message.id.name)?;
+    let compared = compare(alloc, ids, reference, other, message.id.name)?;
     let differences = &compared.differences;
     if differences.is_empty() {
         return Ok(Vec::new(alloc));

@@ -69,16 +69,18 @@ impl<'s> Reference<'_, '_, 's> {
         ensures { OnOk result (Adds findings.old findings.new
             (message_compared self.now source.now message.now text.now)) }
     {
+        let other = self.reference.get_entry_message(message.id.name);
         let mut found = difference_findings(
             alloc,
             self.ids,
             self.reference,
             source,
             message,
+            other,
             text,
         )?;
         findings.append(&mut found)?;
-        match self.reference.get_entry_message(message.id.name) {
+        match other {
             Some(other) => self.push_beside(alloc, source, message, other, text, findings),
             None => Ok(()),
         }

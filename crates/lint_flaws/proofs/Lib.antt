@@ -12,5 +12,7 @@ pub mod NodesCounted
 pub mod FirstLetters
 pub mod WordSteps
 pub mod Spelled
-pub mod AsciiTexts
+pub mod PlainBytes
+pub mod NothingSpecial
+pub mod OneScript
 pub mod HexNumbers

@@ -145,7 +145,7 @@ unfolding encode_utf8
 encoded_three n x y z low high first second third =
     rw (le-ltb n 128 (omega (arith, low)), le-ltb n 2048 low, lt-ltb n 65536 high, first, second, third) refl
 
-between : (low high c : ℕ) → is_between low high c ≡ true → (low ≤ c) × (c ≤ high)
+pub between : (low high c : ℕ) → is_between low high c ≡ true → (low ≤ c) × (c ≤ high)
 between low high c h =
     let both = and_parts (nat_le low c) (nat_le c high) h in
     (leb-true low c both.0, leb-true c high both.1)

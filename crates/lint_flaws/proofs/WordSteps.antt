@@ -5,7 +5,7 @@ use Rattle.std.specs.List.{prefix_len}
 use Rattle.fluent_grammar.specs.Words.{Text, is_letter}
 use Rattle.lint_findings.specs.View.{remark_view}
 use Rattle.lint_findings.specs.declared.remark.Remark.{Remark}
-use Rattle.lint_findings.specs.Scripts.{Letter, Script, latin, greek, cyrillic, ascii_letter, count, goes_on, if_mixed, is_same, letters_at, mixed, pair_script, script_at, with_pair, word_remarks, words_from}
+use Rattle.lint_findings.specs.Scripts.{Letter, Script, latin, greek, cyrillic, ascii_letter, count, goes_on, if_mixed, is_same, letters_at, mixed, pair_number, pair_script, script_at, with_pair, word_remarks, words_from}
 use Rattle.lint_flaws.specs.Letters.{word_if_begins}
 
 -- ---- word after word
@@ -27,23 +27,36 @@ word_added s i within t old new inside is added =
 -- ---- words of ASCII letters alone
 
 -- of no letters but Latin ones
-abbrev IsLatin : List Letter → Type 0
+abbrev pub IsLatin : List Letter → Type 0
 IsLatin ls = (x : Script) → is_same x latin ≡ false → count x ls ≡ 0
 
-cons_latin : (n c : ℕ) (ls : List Letter) → IsLatin ls → IsLatin (ascii_letter n c ∷ ls)
+pub cons_latin : (n c : ℕ) (ls : List Letter) → IsLatin ls → IsLatin (ascii_letter n c ∷ ls)
 cons_latin n c ls there x other =
     ap (λ b. length (cond b (ascii_letter n c ∷ filter (λ (l : Letter). is_same x l.script) ls) (filter (λ (l : Letter). is_same x l.script) ls))) other ∙ there x other
 
-if_latin : (b : Bool) (ls ks : List Letter) → (b ≡ true → IsLatin ls) → (b ≡ false → IsLatin ks) → IsLatin (if b then ls else ks)
+pub if_latin : (b : Bool) (ls ks : List Letter) → (b ≡ true → IsLatin ls) → (b ≡ false → IsLatin ks) → IsLatin (if b then ls else ks)
 if_latin true ls ks here there = here refl
 if_latin false ls ks here there = there refl
 
-none_latin : IsLatin []
+pub none_latin : IsLatin []
 none_latin x other = refl
 
 pair_latin : (o : Option Script) (n c d : ℕ) (ls : List Letter) → o ≡ None → IsLatin (with_pair n c d ls o)
 pair_latin None n c d ls none = none_latin
 pair_latin (Some x) n c d ls none = absurd cc
+
+-- a Latin letter, or none
+latin_first : (x : Script) (n c d : ℕ) (ls : List Letter) → x ≡ latin → IsLatin ls → IsLatin (with_pair n c d ls (Some x))
+latin_first x n c d ls same there y other =
+    ap (λ b. length (cond b (record { script = x; number = pair_number c d; before = n } ∷ filter (λ (l : Letter). is_same y l.script) ls) (filter (λ (l : Letter). is_same y l.script) ls))) (ap (is_same y) same ∙ other) ∙ there y other
+
+pub pair_latin_too : (b : Bool) (o : Option Script) (n c d : ℕ) (ls : List Letter) → o ≡ (if b then Some latin else None) → IsLatin ls → IsLatin (with_pair n c d ls o)
+pair_latin_too true None n c d ls is there = absurd cc
+pair_latin_too true (Some x) n c d ls is there =
+    let same : x ≡ latin = cc in
+    latin_first x n c d ls same there
+pair_latin_too false None n c d ls is there = none_latin
+pair_latin_too false (Some x) n c d ls is there = absurd cc
 
 -- a letter is passed
 later : (b : Bool) (k c : ℕ) (s : Text) → b ≡ true → script_at (drop (cond b (1 + k) 0) (c ∷ s)) ≡ None → script_at (drop k s) ≡ None
@@ -71,12 +84,13 @@ unmixed n x y ls none =
     ap (λ k. if_mixed n x y ls (if k == 0 || count y ls == 0 then None else if nat_le k (count y ls) then Some x else Some y)) none
 
 -- Nothing is said of such a word.
-pub nothing_of_latin : (n : ℕ) (text : Text) → script_at (drop (prefix_len is_letter text) text) ≡ None → word_remarks n (letters_at 0 text) ≡ []
-nothing_of_latin n text none =
-    let ls = letters_at 0 text in
-    let alone = latin_alone 0 text none in
+pub nothing_of_these : (n : ℕ) (ls : List Letter) → IsLatin ls → word_remarks n ls ≡ []
+nothing_of_these n ls alone =
     ap (λ z. z ++ (mixed n greek latin ls ++ mixed n cyrillic greek ls)) (unmixed n cyrillic latin ls (alone cyrillic refl))
     ∙ ap (λ z. z ++ mixed n cyrillic greek ls) (unmixed n greek latin ls (alone greek refl)) ∙ unmixed n cyrillic greek ls (alone cyrillic refl)
+
+pub nothing_of_latin : (n : ℕ) (text : Text) → script_at (drop (prefix_len is_letter text) text) ≡ None → word_remarks n (letters_at 0 text) ≡ []
+nothing_of_latin n text none = nothing_of_these n (letters_at 0 text) (latin_alone 0 text none)
 
 none_of : (o : Option Script) → not (is_some o) ≡ true → o ≡ None
 none_of None h = refl

@@ -8,3 +8,4 @@ pub mod MissingAmong
 pub mod Escape
 pub mod Near
 pub mod Letters
+pub mod Special

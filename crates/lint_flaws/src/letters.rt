@@ -5,6 +5,7 @@ ghost use Rattle.std.specs.Prelude.{◌≡◌, IfOk, OnOk, map, option_map};
 ghost use Rattle.lint_findings.specs.View.{remark_view};
 ghost use Rattle.lint_findings.specs.Letters as l;
 ghost use Rattle.lint_flaws.specs.Said.{AddsPlaced, IsSaid};
+ghost use Rattle.lint_flaws.specs.Special.{has_special, is_plain, is_special};
 
 use crate::adding::push_remark;
 use crate::characters::{
@@ -22,6 +23,47 @@ use std::alloc::{AllocError, Global};
 /// # Errors
 /// [`AllocError`] if memory runs out; nothing is kept.
 pub fn letter_remarks(alloc: Global, text: &[u8]) -> Result<Vec<Remark>, AllocError>
+    ensures { IfOk result (λ found. map remark_view found.items ≡ l.letters text.now) }
+{
+    if has_special(text) {
+        special_remarks(alloc, text)
+    } else {
+        Ok(Vec::new(alloc))
+    }
+}
+
+/// Whether a text has a character of which something may be said. Few texts have one.
+fn has_special(text: &[u8]) -> bool
+    ensures { result ≡ has_special text.now }
+{
+    for place in 0..text.len() {
+        if !is_plain(text[place]) && is_special(skip(text, place)) {
+            return true;
+        }
+    }
+    false
+}
+
+/// Whether a byte begins no character of which something may be said.
+fn is_plain(byte: u8) -> bool
+    ensures { result ≡ is_plain byte }
+{
+    !(byte < 32 || (byte == 127 || (byte == 0xC2 || (byte == 0xE2 || byte == 0xEF))))
+}
+
+/// Whether something may be said of the character at the front.
+fn is_special(text: &[u8]) -> bool
+    ensures { result ≡ is_special text.now }
+{
+    is_later_control(text)
+        || (is_control_byte(text)
+            || (is_lost(text)
+                || (is_zero_width_space(text)
+                    || (is_word_joiner(text) || (is_mark(text) || (opens(text) || closes(text)))))))
+}
+
+/// What is said of the characters of a text that may have such a character.
+fn special_remarks(alloc: Global, text: &[u8]) -> Result<Vec<Remark>, AllocError>
     ensures { IfOk result (λ found. map remark_view found.items ≡ l.letters text.now) }
 {
     let mut found = Vec::new(alloc);

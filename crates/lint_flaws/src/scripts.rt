@@ -2,10 +2,11 @@
 #![tactic(auto)]
 
 ghost use Rattle.std.specs.Prelude.{◌≡◌, ◌+◌, ◌<◌, ◌^◌, IfOk, OnOk, drop, false, is_some, length, map, not, option_map};
-ghost use Rattle.std.specs.List.{prefix_len};
+ghost use Rattle.std.specs.List.{list_any, prefix_len};
 ghost use Rattle.fluent_grammar.specs.Words.{is_letter};
 ghost use Rattle.lint_findings.specs.View.{remark_view};
 ghost use Rattle.lint_findings.specs.Scripts as s;
+ghost use Rattle.lint_flaws.specs.Special.{begins_other};
 ghost use Rattle.lint_flaws.specs.Letters.{AddsRemarks, AreWithin, IsFirstLetter, first_in, letter_view, mixed_in, script_view, word_if_begins};
 
 use lint_findings::Remark;
@@ -39,10 +40,23 @@ pub fn push_mixed_words(
 ) -> Result<(), AllocError>
     ensures { OnOk result (AddsRemarks found.old found.new (s.mixed_words text.now)) }
 {
-    if text.is_ascii() {
-        return Ok(());
+    if has_other_script(text) {
+        push_words(alloc, text, found)
+    } else {
+        Ok(())
     }
-    push_words(alloc, text, found)
+}
+
+/// Whether a text may have letters that are Greek or Cyrillic.
+fn has_other_script(text: &[u8]) -> bool
+    ensures { result ≡ list_any begins_other text.now }
+{
+    for byte in text {
+        if matches!(*byte, 0xCD..=0xD4) {
+            return true;
+        }
+    }
+    false
 }
 
 fn push_words(alloc: Global, text: &[u8], found: &mut Vec<Remark>) -> Result<(), AllocError>

@@ -25,3 +25,4 @@ pub mod NamesAdded
 pub mod References
 pub mod Reaching
 pub mod VariableRows
+pub mod OwnVariables

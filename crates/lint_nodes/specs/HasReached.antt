@@ -1,5 +1,5 @@
 -- What references reach.
-use Rattle.std.specs.Prelude.{List, [], ◌∷◌, Option, map}
+use Rattle.std.specs.Prelude.{◌≡◌, List, [], ◌∷◌, Option, Some, None, map}
 use Rattle.std.specs.List.{flat_map}
 use Rattle.std.specs.Option.{option_to_list}
 use Rattle.lint_findings.specs.Comparison.{message_of, message_patterns, union, variable_of}
@@ -9,6 +9,7 @@ use Rattle.fluent_grammar.specs.Tree as t
 use Rattle.fluent_grammar.specs.Tree.{Elements, Inline}
 use Rattle.fluent_grammar.specs.Words.{Text}
 use Rattle.lint_nodes.specs.HasNames.{HasNames}
+use Rattle.lint_nodes.specs.declared.name_set.Names.{Names}
 use Rattle.lint_nodes.specs.declared.reached.Reached.{Reached}
 
 -- These messages and variables are reached.
@@ -42,3 +43,8 @@ attribute_references as' = flat_map elements_references (map (λ (a : t.Attribut
 
 abbrev pub message_references : t.Message → List Inline
 message_references m = flat_map elements_references (message_patterns m)
+
+-- These are the variables of a message that refers to no message.
+abbrev pub AreOwn : t.Message → Option Names → Type 0
+AreOwn m None = Unit {0}
+AreOwn m (Some names) = (messages_in (message_references m) ≡ []) × HasNames names (union [] (variables_in (message_references m)))

@@ -44,5 +44,5 @@ pub use name_set::Names;
 pub use names::{declared_id, key_text, name_of};
 pub use nodes::{Node, pattern_nodes};
 pub use occurrence::{Found, Occurrence, empty_pattern_rest, pattern_occurrences};
-pub use variables::variables_of;
+pub use variables::{variables_of, variables_of_message};
 pub use words::skip;

@@ -54,7 +54,11 @@ impl<'s> Reached<'s> {
         }
     }
 
-    fn add_message<'r: 's>(&mut self, message: &Message<&'r str>) -> Result<(), AllocError>
+    /// Adds what a message refers to.
+    ///
+    /// # Errors
+    /// [`AllocError`] if memory runs out; some may be added then.
+    pub fn add_message<'r: 's>(&mut self, message: &Message<&'r str>) -> Result<(), AllocError>
         ensures { OnOk result
             (GetsReferences self.old (message_references (message_of message.now)) self.new) }
     {

@@ -1,13 +1,18 @@
 //! The variables that a message is shown with.
 #![tactic(auto)]
 
-ghost use Rattle.std.specs.Prelude.{IfOk};
-ghost use Rattle.lint_nodes.specs.HasNames.{HasNames};
-ghost use Rattle.lint_findings.specs.Comparison as c;
+ghost use Rattle.std.specs.Prelude.{◌≡◌, IfOk, Some};
+ghost use Rattle.fluent_ast.specs.Borrowed.{message_of};
+ghost use Rattle.fluent_ids.specs.Found.{message_in};
 ghost use Rattle.fluent_ids.specs.IdsView.{ids_view};
+ghost use Rattle.fluent_meaning.specs.Ids.{find};
+ghost use Rattle.lint_nodes.specs.HasNames.{HasNames};
+ghost use Rattle.lint_nodes.specs.HasReached.{AreOwn};
+ghost use Rattle.lint_findings.specs.Comparison as c;
 
 use crate::name_set::Names;
 use crate::reached::Reached;
+use fluent_ast::Message;
 use fluent_ids::FluentIds;
 use std::alloc::{AllocError, Global};
 
@@ -35,4 +40,40 @@ pub fn variables_of<'i, 's: 'i, F>(
         next += 1;
     }
     Ok(reached.variables)
+}
+
+/// The same of an id that stands for this message. The message isn't looked up again, if it refers
+/// to no other.
+///
+/// # Errors
+/// [`AllocError`] if memory runs out; nothing is kept.
+pub fn variables_of_message<'i, 's: 'i, F>(
+    alloc: Global,
+    ids: &FluentIds<'_, 's, F>,
+    id: &'i str,
+    message: &Message<&'s str>,
+) -> Result<Names<'i>, AllocError>
+    requires { message_in (find (ids_view F ids.now) id.now) ≡ Some (message_of message.now) }
+    ensures { IfOk result (λ names. HasNames names (c.variables_of (ids_view F ids.now) id.now)) }
+{
+    match own_variables(alloc, message)? {
+        Some(variables) => Ok(variables),
+        None => variables_of(alloc, ids, id),
+    }
+}
+
+/// The variables of a message, if it refers to no message.
+fn own_variables<'i, 's: 'i>(
+    alloc: Global,
+    message: &Message<&'s str>,
+) -> Result<Option<Names<'i>>, AllocError>
+    ensures { IfOk result (AreOwn (message_of message.now)) }
+{
+    let mut reached = Reached::new(alloc);
+    reached.add_message(message)?;
+    if reached.messages.list.is_empty() {
+        Ok(Some(reached.variables))
+    } else {
+        Ok(None)
+    }
 }

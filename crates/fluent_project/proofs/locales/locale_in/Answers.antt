@@ -1,9 +1,9 @@
-use Rattle.std.proofs.Common.{◌≡◌, ◌∙◌, [], Option, Some, None, ap, rules, subst, sym, true}
+use Rattle.std.proofs.Common.{◌≡◌, ◌∙◌, [], Some, None, rules, subst, sym, true}
 use Rattle.std.specs.Prelude.{IfSome}
 use Rattle.std.specs.Str.{IsUtf8}
 use Rattle.fluent_project.specs.declared.part.Wildcard.TheVariants.{Star}
-use Rattle.fluent_project.specs.Locales.{HasNoTag, IsLocaleIn, tag_in}
-use Rattle.fluent_project.specs.Patterns.{Matches, Text, may_be}
+use Rattle.fluent_project.specs.Locales.{tag_in}
+use Rattle.fluent_project.specs.Patterns.{Matches, may_be}
 use Rattle.fluent_project.specs.Views.{FindsLongest, FindsTaken}
 use Rattle.fluent_project.proofs.Tags.{no_tag, slashless, tag_there}
 use Rattle.fluent_project.proofs.locales.locale_in.Goals as goal

@@ -1,8 +1,6 @@
-use Rattle.std.proofs.Common.{◌≡◌, ◌∙◌, Option, Some, ap, sym}
+use Rattle.std.proofs.Common.{◌≡◌, ◌∙◌, Some, ap, sym}
 use Rattle.std.specs.Prelude.{option_and_then}
-use Rattle.std.specs.Result.{result_ok}
 use Rattle.fluent_project.specs.Relative.{after_slash, below}
-use Rattle.fluent_project.specs.Taking.{after}
 use Rattle.fluent_project.proofs.Below.{rest_utf8, text_there}
 use Rattle.fluent_project.proofs.relative.path_below.Goals as goal
 

@@ -1,10 +1,11 @@
 use Rattle.std.proofs.Common.{◌≡◌, ◌∙◌, ap, ap₂}
 use Rattle.std.proofs.lemmas.Result.{IfOk-weaker}
 use Rattle.clap.specs.Words.{App, app_of, with_subcommand}
-use Rattle.ftl_arguments.specs.Commands.{bare_program, format_shape, run_shape, tidy_shape, with_reports, with_tidying}
+use Rattle.ftl_arguments.specs.Commands.{bare_program, format_shape, program_app, run_shape, tidy_shape, with_reports, with_tidying}
 use Rattle.ftl_arguments.proofs.program.program.Goals as goal
 
 pub returns : goal.returns
+unfolding program_app
 returns c =
     let run : app_of c.in_ok-program.program ≡ with_subcommand bare_program run_shape =
     c.in_ok-program.ensures.shape c.in_ok-run.ensures.1 ∙ ap₂ with_subcommand c.in_ok-bare_program.ensures c.in_ok-run.ensures.0 in
