@@ -46,7 +46,7 @@ def plain(text: str) -> str:
 def parts(name: str, kind: str, asked: str) -> list[str]:
     """The lists that a table is made of, in the order in which the definition `asked` looks through them."""
     text = source(name)
-    numbers = re.findall(rf'{kind}_(\d+)', text[text.index(f'\n{asked} '):])
+    numbers = re.findall(rf'{kind}_(\w+)', text[text.index(f'\n{asked}'):])
     return [re.search(rf'^{kind}_{number} =\n(.*?)^    \[\]$', text, re.M | re.S)[1] for number in numbers]
 
 
@@ -103,7 +103,7 @@ def row_of(row: dict) -> dict:
 
 
 def tags() -> dict[str, int]:
-    found = [re.findall(rf'\({TEXT} ⇒ (\d+)\)', part) for part in parts('Tags', 'tags', 'row_for tag =')]
+    found = [re.findall(rf'\({TEXT} ⇒ (\d+)\)', part) for part in parts('Tags', 'tags', 'tags =')]
     return {tag: int(row) for part in found for tag, row in part}
 
 

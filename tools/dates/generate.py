@@ -181,29 +181,53 @@ class Writer:
         return names[digits[0]]
 
     def tags(self):
-        chunks = parts(list(self.data["tags"].items()))
-        names = [f"tags_{k + 1}" for k in range(len(chunks))]
-        rust = ["//! The tags, and the numbers of their rows. A longer tag is before one that it begins with.", f"// {self.note}",
+        letters = {}
+        for tag, row in self.data["tags"].items():
+            letters.setdefault(tag[0], []).append((tag, row))
+        names = [f"tags_{letter}" for letter in letters]
+        rust = ["//! The tags, and the numbers of their rows.", f"// {self.note}",
                 "ghost use Rattle.std.specs.Prelude.{◌≡◌};", f"ghost use Rattle.fluent_date_tables.specs.Tags.{{{', '.join(names)}, row_for}};",
-                "ghost use Rattle.fluent_date_tables.specs.Tables.{first_of};", "",
-                "use crate::tables::{Tagged, first_fitting};", "", "/// Tags and numbers.", "macro_rules! tags {", "    ($($tag:literal $row:literal,)*) => {",
-                "        [$(Tagged { tag: $tag, row: $row }),*]", "    };", "}", "",
-                "/// The row of the longest tag that a text begins with.", "pub fn row_for(tag: &[u8]) -> Option<u16>", "    ensures { result ≡ row_for tag.now }", "{",
-                *[line for k in range(len(chunks) - 1)
-                  for line in (f"    if let Some(row) = row_in_{k + 1}(tag) {{", "        return Some(row);", "    }")],
-                f"    row_in_{len(chunks)}(tag)", "}"]
+                "ghost use Rattle.fluent_date_tables.specs.Tables.{at_letter, first_of};", "ghost use Rattle.fluent_date_tables.specs.Letters.{lettered};", "",
+                "use crate::tables::{Family, Tagged, first_folded, row_among};", "", "/// A language with its row, and what may follow it with the row of both.",
+                "macro_rules! family {", "    ($language:literal $row:literal, $($more:literal $both:literal,)*) => {",
+                "        Family {", "            language: $language,", "            row: $row,", "            more: &[$(Tagged { tag: $more, row: $both }),*],",
+                "        }", "    };", "}", "",
+                "/// The row of the longest tag that a text begins with.", "#[tactic(auto, using(crate::proofs::Letters::row_by_letter))]", "pub fn row_for(tag: &[u8]) -> Option<u16>", "    ensures { result ≡ row_for tag.now }", "{",
+                "    row_by_letter(first_folded(tag), tag)", "}", "",
+                "/// The row of the longest tag of this first letter that a text begins with.", "fn row_by_letter(letter: u8, tag: &[u8]) -> Option<u16>",
+                "    ensures { result ≡ at_letter lettered letter tag.now }", "{", "    match letter {",
+                *[f"        b'{letter}' => row_in_{letter}(tag)," for letter in letters], "        _ => None,", "    }", "}"]
         antt = [f"-- {self.note}", "-- The tags, and the numbers of their rows. A longer tag is before one that it begins with.",
-                "use Rattle.std.specs.Prelude.{ℕ, List, [], ◌∷◌, Option}", "use Rattle.fluent_date_tables.specs.Tables.{Text, Tagged, ◌⇒◌, first_of, or_else}"]
-        for k, chunk in enumerate(chunks):
-            rust += ["", f"static TAGS_{k + 1}: [Tagged; {len(chunk)}] = tags![", *wrapped([f"{quoted(t)} {r}," for t, r in chunk]), "];", "",
-                     "/// The row of the longest tag of the table above that a text begins with.", f"fn row_in_{k + 1}(tag: &[u8]) -> Option<u16>",
-                     f"    ensures {{ result ≡ first_of tags_{k + 1} tag.now }}", "{", f"    first_fitting(&TAGS_{k + 1}, tag)", "}"]
-            antt += ["", f"unfoldable pub tags_{k + 1} : List Tagged", f"tags_{k + 1} =", *wrapped([f"({quoted(t)} ⇒ {r}) ∷" for t, r in chunk]), "    []"]
-            self.answer(f"tags/row_in_{k + 1}", "first_fitting", f"Tags.{{tags_{k + 1}}}", f"tags_{k + 1}")
-        antt += ["", "-- the row of the longest tag that a text begins with", "abbrev pub row_for : Text → Option ℕ",
-                 "row_for tag = " + self.nested("or_else ({}) ({})", [f"first_of tags_{k + 1} tag" for k in range(len(chunks))])]
+                "use Rattle.std.specs.Prelude.{ℕ, List, [], ◌∷◌, Option}", "use Rattle.fluent_date_tables.specs.Tables.{Text, Tagged, ◌⇒◌, first_in}"]
+        for letter, chunk in letters.items():
+            rust += ["", f"static TAGS_{letter.upper()}: [Family; {sum('-' not in tag for tag, _ in chunk)}] = [", *self.families(chunk), "];", "",
+                     "/// The row of the longest tag of the table above that a text begins with.", f"fn row_in_{letter}(tag: &[u8]) -> Option<u16>",
+                     f"    ensures {{ result ≡ first_of tags_{letter} tag.now }}", "{", f"    row_among(&TAGS_{letter.upper()}, tag)", "}"]
+            antt += ["", f"unfoldable pub tags_{letter} : List Tagged", f"tags_{letter} =", *wrapped([f"({quoted(t)} ⇒ {r}) ∷" for t, r in chunk]), "    []"]
+            self.answer(f"tags/row_in_{letter}", "row_among", f"Tags.{{tags_{letter}}}", f"tags_{letter}")
+        antt += ["", "abbrev pub tags : List (List Tagged)", "tags =", *wrapped([f"{name} ∷" for name in names]), "    []",
+                 "", "-- the row of the longest tag that a text begins with", "abbrev pub row_for : Text → Option ℕ", "row_for tag = first_in tags tag"]
         self.write("src/tags.rt", rust)
         self.write("specs/Tags.antt", antt)
+        self.write("specs/Letters.antt", [
+            f"-- {self.note}", "-- The lists of tags, each with the letter that its tags begin with.", "use Rattle.std.specs.Prelude.{ℕ, List, [], ◌∷◌}",
+            "use Rattle.fluent_date_tables.specs.Tables.{Tagged}", f"use Rattle.fluent_date_tables.specs.Tags.{{{', '.join(names)}}}", "",
+            "abbrev pub lettered : List (ℕ × List Tagged)", "lettered =",
+            *wrapped([f"({ord(letter)}, {name}) ∷" for letter, name in zip(letters, names)]), "    []"])
+
+    def families(self, tags):
+        """A line for each language: its row, and what may follow it. The tag of the language alone is the last of its tags."""
+        families = {}
+        for tag, row in tags:
+            language, *more = tag.split("-", 1)
+            families.setdefault(language, []).append((more, row))
+        for language, ((_, row), *others) in ((language, reversed(tags)) for language, tags in families.items()):
+            words = [f"{quoted(language)} {row},", *(f"{quoted(more)} {both}," for (more,), both in reversed(others))]
+            lines = wrapped(words, "        ")
+            if len(lines) == 1:
+                yield f"    family![{lines[0].strip()}],"
+            else:
+                yield from ["    family![", *lines, "    ],"]
 
     def nested(self, form, calls):
         text = calls[-1]

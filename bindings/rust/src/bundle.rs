@@ -5,6 +5,7 @@ use crate::c;
 use crate::call::{Answering, Functions};
 use crate::custom::{Customs, Transform};
 use crate::date_time::{shown_in, Locales};
+use crate::dated::dated;
 use crate::entries::{Asking, Entries, Held};
 use crate::errors::{EntryKind, FluentError};
 use crate::fixed::{Known, KnownTexts, Varies};
@@ -56,6 +57,10 @@ pub struct FluentBundle<R = FluentResource, M = IntlLangMemoizer> {
     kept: OnceLock<Arc<Kept>>,
     /// A bundle of the library over sources in which each value is shown by a call.
     showing: OnceLock<Arc<Kept>>,
+    /// A bundle of the library for values that it doesn't take as dates: the package answers the calls of `DATETIME`.
+    answering: OnceLock<Arc<Kept>>,
+    /// The variables that messages pass to `DATETIME`, if the library answers its calls.
+    dated: OnceLock<Option<Vec<Box<str>>>>,
     /// What shows numbers with options, by these options.
     numbers: Mutex<HashMap<String, Kept>>,
 }
@@ -108,6 +113,8 @@ impl<R: Borrow<FluentResource>> FluentBundle<R, IntlLangMemoizer> {
             known: KnownTexts::default(),
             kept: OnceLock::new(),
             showing: OnceLock::new(),
+            answering: OnceLock::new(),
+            dated: OnceLock::new(),
             numbers: Mutex::default(),
         }
     }
@@ -405,7 +412,7 @@ impl<R: Borrow<FluentResource>, M> FluentBundle<R, M> {
             Some(Formatted::Taken(None)) => w.write_str(copy.as_str()),
             Some(Formatted::Taken(Some(text))) => {
                 let written = w.write_str(text.as_str());
-                self.kept(self.shows(args)).give_back(text);
+                self.kept_for(args.unwrap_or(&FluentArgs::new())).give_back(text);
                 written
             }
             Some(Formatted::Shown(text)) => w.write_str(&text),
@@ -462,7 +469,8 @@ impl<R: Borrow<FluentResource>, M> FluentBundle<R, M> {
         errors: &mut Vec<FluentError>,
         room: &mut ShortText,
     ) -> bool {
-        if !varies.is_short() || self.formatter.is_some() || self.transform.is_some() {
+        let is_own = self.formatter.is_some() || self.transform.is_some();
+        if !varies.is_short() || is_own || args.is_some_and(|args| self.answers_dates(args)) {
             return false;
         }
         let mut write = |args: &[c::FluentArgument]| {
@@ -489,10 +497,12 @@ impl<R: Borrow<FluentResource>, M> FluentBundle<R, M> {
         errors: &mut Vec<FluentError>,
         took: impl FnOnce(&mut Text) -> T,
     ) -> Option<Formatted<T>> {
-        let (none, kept) = (FluentArgs::new(), self.kept(self.shows(args)));
+        let none = FluentArgs::new();
         let args = args.unwrap_or(&none);
+        let kept = self.kept_for(args);
         let mut customs = Customs::default();
-        let given = args.in_library(&mut customs);
+        let keeps_dates = !self.shows(Some(args)) && self.dated().is_some() && !self.answers_dates(args);
+        let given = args.in_library(keeps_dates, &mut customs);
         let show = |value: &FluentValue<'_>| self.shown(value);
         let functions = &self.functions;
         // A function may ask the bundle, but not for this answer.
@@ -595,15 +605,48 @@ impl<R: Borrow<FluentResource>, M> FluentBundle<R, M> {
         Settings { isolating: self.isolating, last_counts, plain_numbers: self.plain_numbers, stack: self.stack }
     }
 
-    /// The bundle that the library keeps, which is made if it isn't there: that in which values are shown by calls, or the
-    /// usual one.
+    /// The variables that messages pass to `DATETIME`, or `None` if the package answers its calls: the program has
+    /// functions, which may get its values, or a call may be of what is no date.
+    fn dated(&self) -> Option<&[Box<str>]> {
+        let found = || {
+            let has_own = !self.functions.are_none() || self.entries.get("DATETIME").is_some();
+            if has_own {
+                return None;
+            }
+            dated(self.resources.iter().map(|added| added.resource.borrow().readable()))
+        };
+        self.dated.get_or_init(found).as_deref()
+    }
+
+    /// Whether the package answers the calls of `DATETIME` for these arguments in the place of the library, since one of
+    /// them isn't taken as a date.
+    fn answers_dates(&self, args: &FluentArgs<'_>) -> bool {
+        let is_other = |name: &str| args.get(name).is_some_and(|value| !value.is_plain_date());
+        self.dated().is_some_and(|names| names.iter().any(|name| is_other(name)))
+    }
+
+    /// The bundle that the library keeps for these arguments.
+    fn kept_for(&self, args: &FluentArgs<'_>) -> &Kept {
+        let shows = self.shows(Some(args));
+        if !shows && self.answers_dates(args) {
+            return self.kept_as(&self.answering, false, true);
+        }
+        self.kept(shows)
+    }
+
+    /// The bundle that the library keeps: that in which values are shown by calls, or the usual one.
     fn kept(&self, shows: bool) -> &Kept {
         let kept = if shows { &self.showing } else { &self.kept };
+        self.kept_as(kept, shows, shows || self.dated().is_none())
+    }
+
+    /// One of the bundles that the library keeps, which is made if it isn't there.
+    fn kept_as<'k>(&self, kept: &'k OnceLock<Arc<Kept>>, shows: bool, answers_dates: bool) -> &'k Kept {
         kept.get_or_init(|| {
             let last_counts = self.added(true).any(FluentResource::has_doubles)
                 && !self.added(false).any(FluentResource::has_doubles);
             let (thread, locale) = (thread::current().id(), self.rules.clone());
-            let asking = Asking { thread, locale, settings: self.settings(last_counts), shows };
+            let asking = Asking { thread, locale, settings: self.settings(last_counts), shows, answers_dates };
             self.entries.kept(&asking, || self.made(&asking))
         })
     }
@@ -615,7 +658,7 @@ impl<R: Borrow<FluentResource>, M> FluentBundle<R, M> {
         } else {
             self.added(true).rev().chain(self.added(false)).collect()
         };
-        let has_dates = self.calls_dates();
+        let has_dates = asking.answers_dates && self.calls_dates();
         let sources: Vec<Cow<'_, str>> =
             resources.into_iter().map(|resource| self.source(resource.readable(), asking.shows, has_dates)).collect();
         let sources: Vec<&str> = sources.iter().map(AsRef::as_ref).collect();
@@ -646,6 +689,8 @@ impl<R: Borrow<FluentResource>, M> FluentBundle<R, M> {
     fn forget(&mut self) {
         self.kept.take();
         self.showing.take();
+        self.answering.take();
+        self.dated.take();
         self.known = KnownTexts::default();
         self.numbers.get_mut().unwrap_or_else(PoisonError::into_inner).clear();
     }

@@ -16,6 +16,7 @@ pub const FLUENT_INTEGER: u32 = 2;
 pub const FLUENT_UNSIGNED: u32 = 3;
 pub const FLUENT_NO_VALUE: u32 = 4;
 pub const FLUENT_FLOAT: u32 = 5;
+pub const FLUENT_DATETIME: u32 = 6;
 
 pub const FLUENT_FILTERING: u32 = 0;
 pub const FLUENT_MATCHING: u32 = 1;

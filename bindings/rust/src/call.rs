@@ -26,6 +26,10 @@ impl Functions {
         self.0.contains_key(name)
     }
 
+    pub(crate) fn are_none(&self) -> bool {
+        self.0.is_empty()
+    }
+
     /// Whether a source has one of the names in it, somewhere.
     pub(crate) fn is_any_in(&self, source: &str) -> bool {
         self.0.keys().any(|name| source.contains(name.as_str()))

@@ -204,6 +204,24 @@ impl FluentDateTime {
         self
     }
 
+    /// The text that the library reads as this date, if it then shows the date as the package does: one without options,
+    /// whose year has no minus.
+    #[inline]
+    pub(crate) fn for_library(&self) -> Option<String> {
+        if !self.is_plain() {
+            return None;
+        }
+        let mut text = String::with_capacity(40);
+        self.write_iso(&mut text).ok()?;
+        Some(text)
+    }
+
+    /// Whether the library shows the date as the package does, if it is given the text of ISO 8601.
+    #[inline]
+    pub(crate) fn is_plain(&self) -> bool {
+        self.year >= 0 && self.options == FluentDateTimeOptions::default()
+    }
+
     /// The text as the locale of a tag writes it, or that of ISO 8601 if CLDR doesn't know its language.
     pub(crate) fn text_in(&self, locale: &str) -> String {
         let time = self.time.unwrap_or(Time { hour: 0, minute: 0, second: 0, nanosecond: 0 });
@@ -272,6 +290,12 @@ impl From<FluentDateTime> for FluentValue<'_> {
     }
 }
 
+/// The date that a value of the program's own is, if it is one.
+#[inline]
+pub(crate) fn date_of(value: &(dyn FluentType + Send)) -> Option<&FluentDateTime> {
+    value.as_any().downcast_ref::<FluentDateTime>()
+}
+
 /// The locales of a bundle by which values of the program's own are shown.
 #[derive(Clone, Copy, Default)]
 pub(crate) struct Locales<'b> {
@@ -283,7 +307,7 @@ pub(crate) struct Locales<'b> {
 
 /// The text of a value of the program's own, in a bundle of these locales: that of a date is as the locale writes it.
 pub(crate) fn shown_in(value: &(dyn FluentType + Send), locales: Locales<'_>) -> String {
-    match value.as_any().downcast_ref::<FluentDateTime>() {
+    match date_of(value) {
         Some(date) => date.text_in(locales.dates),
         None => value.as_string(&IntlLangMemoizer::of(locales.formatters)).into_owned(),
     }
@@ -298,7 +322,7 @@ pub(crate) fn called(
     named: &FluentArgs<'_>,
 ) -> Result<FluentValue<'static>, String> {
     let date = match positional.first() {
-        Some(FluentValue::Custom(value)) => value.as_any().downcast_ref::<FluentDateTime>(),
+        Some(FluentValue::Custom(value)) => date_of(&**value),
         Some(FluentValue::None | FluentValue::Error) => return Ok(FluentValue::Error),
         _ => None,
     };

@@ -51,14 +51,15 @@ pub(crate) struct Entries {
     kept: Mutex<Vec<(Asking, Weak<Kept>)>>,
 }
 
-/// How a bundle asks the library: for a locale, and whether values are shown by calls; and in which thread it began to, since
-/// threads with bundles of their own needn't wait for each other.
+/// How a bundle asks the library: for a locale, whether values are shown by calls, and whether the package answers those
+/// of `DATETIME`; and in which thread it began to, since threads with bundles of their own needn't wait for each other.
 #[derive(Clone, PartialEq, Eq)]
 pub(crate) struct Asking {
     pub(crate) thread: ThreadId,
     pub(crate) locale: String,
     pub(crate) settings: Settings,
     pub(crate) shows: bool,
+    pub(crate) answers_dates: bool,
 }
 
 impl Entries {

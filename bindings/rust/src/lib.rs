@@ -40,6 +40,7 @@ mod c;
 mod call;
 mod custom;
 mod date_time;
+mod dated;
 mod decimal;
 mod entries;
 mod errors;

@@ -84,6 +84,49 @@ fn what_is_no_date_is_an_error() {
     assert_eq!((text.as_str(), errors.len()), ("DATETIME()", 1));
 }
 
+/// Calls of variables alone are answered by the library if these are dates, and otherwise by the package, as in a bundle
+/// that has functions of the program.
+#[test]
+fn the_library_and_the_package_answer_alike() {
+    let variables_alone = r#"
+plain = { $date } { $end }
+long = { DATETIME($date, dateStyle: "long") } { DATETIME($end) }
+number = { NUMBER($date) }
+missing = { DATETIME($none) } { $end }
+chosen = { DATETIME($date) ->
+    [x] X
+   *[other] { $date }
+}
+"#;
+    let bundle = |locale: &str, has_functions| {
+        let mut bundle = FluentBundle::new(vec![locale]);
+        bundle.add_resource(FluentResource::try_new(variables_alone.to_string()).unwrap()).unwrap();
+        if has_functions {
+            bundle.add_function("NAME", |_, _| "name".into()).unwrap();
+        }
+        bundle
+    };
+    let short = FluentDateTimeOptions { date_style: Some(DateStyle::Short), ..FluentDateTimeOptions::default() };
+    let before = FluentDateTime::new(-44, 3, 15).unwrap();
+    let values = || -> Vec<FluentValue<'static>> {
+        let dates = [evening(), before.clone(), evening().with_options(short.clone())];
+        let others = ["a text".into(), 3.into(), FluentValue::None];
+        dates.into_iter().map(FluentValue::from).chain(others).collect()
+    };
+    for locale in ["de", "ar-EG", "tlh"] {
+        let (by_library, by_package) = (bundle(locale, false), bundle(locale, true));
+        for (date, end) in
+            values().into_iter().flat_map(|date| values().into_iter().map(move |end| (date.clone(), end)))
+        {
+            let args = fluent_args!["date" => date, "end" => end];
+            for id in ["plain", "long", "number", "missing", "chosen"] {
+                let answer = format(&by_library, id, &args);
+                assert_eq!(answer, format(&by_package, id, &args), "{locale} {id} {args:?}");
+            }
+        }
+    }
+}
+
 #[test]
 fn functions_of_the_program_get_dates() {
     let mut bundle = bundle("en");

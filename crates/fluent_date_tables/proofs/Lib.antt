@@ -1,2 +1,4 @@
 pub mod Steps
 pub mod PartSteps
+pub mod Families
+pub mod Letters

@@ -6,3 +6,4 @@ pub mod Skeletons
 pub mod Digits
 pub mod Rows
 pub mod Tags
+pub mod Letters

@@ -1,11 +1,12 @@
 -- Rows of the tables.
 use Prim.Native.String.{String}
-use Rattle.std.specs.Prelude.{ℕ, zero, suc, Bool, List, [], ◌∷◌, Option, Some, None, if◌then◌else◌, codes, encode_utf8_all}
+use Rattle.std.specs.Prelude.{ℕ, zero, suc, Bool, ◌==◌, List, [], ◌∷◌, ◌++◌, Option, Some, None, if◌then◌else◌, codes, encode_utf8_all}
 use Rattle.std.specs.Borrow.{Bor}
-use Rattle.fluent_plurals.specs.Lookup.{begins_with_tag, folded}
+use Rattle.fluent_plurals.specs.Lookup.{begins_with_tag, ends_here, folded}
 use Rattle.fluent_date.specs.declared.options.HourCycle.{HourCycle}
 use Rattle.fluent_date_tables.specs.declared.tables.Pair as code_pair
 use Rattle.fluent_date_tables.specs.declared.tables.Tagged as code_tagged
+use Rattle.fluent_date_tables.specs.declared.tables.Family as code_family
 use Rattle.fluent_date_tables.specs.declared.tables.Row as code_row
 use Rattle.fluent_date_tables.specs.declared.tables.Skeleton as code_skeleton
 
@@ -83,10 +84,6 @@ infix 5 ◌⇒◌
 abbrev pub ◌⇒◌ : String → ℕ → Tagged
 tag ⇒ number = (utf8 tag, number)
 
-abbrev pub tags_of : List code_tagged.Tagged → List Tagged
-tags_of [] = []
-tags_of (tagged ∷ rest) = (tagged.tag.now, tagged.row) ∷ tags_of rest
-
 -- The number for the first tag that a text begins with, part by part. It is the longest one if longer tags stand before the ones that
 -- they begin with.
 abbrev pub first_of : List Tagged → Text → Option ℕ
@@ -102,3 +99,56 @@ first_folded (byte ∷ rest) = folded byte
 abbrev pub or_else : Option ℕ → Option ℕ → Option ℕ
 or_else None other = other
 or_else (Some number) other = Some number
+
+-- the first that fits, of several lists of tags
+abbrev pub first_in : List (List Tagged) → Text → Option ℕ
+first_in [] text = None
+first_in (tags ∷ more) text = or_else (first_of tags text) (first_in more text)
+
+-- ---- the tables of the code
+
+abbrev pub tags_of : List code_tagged.Tagged → List Tagged
+tags_of [] = []
+tags_of (tagged ∷ rest) = (tagged.tag.now, tagged.row) ∷ tags_of rest
+
+-- the tags of a language: for each of these the language, a `-` and it
+abbrev pub longer : Text → List Tagged → List Tagged
+longer language [] = []
+longer language (more ∷ rest) = (language ++ (45 ∷ more.0), more.1) ∷ longer language rest
+
+-- the tags of a language, the language alone at the end
+abbrev pub tags_with : code_family.Family → List Tagged
+tags_with family = longer family.language.now (tags_of family.more.now) ++ ((family.language.now, family.row) ∷ [])
+
+-- the row of the longest tag of a language that a text begins with
+unfoldable pub row_in : code_family.Family → Text → Option ℕ
+row_in family text = first_of (tags_with family) text
+
+-- that of the first of several languages that has one
+abbrev pub first_row : List code_family.Family → Text → Option ℕ
+first_row [] text = None
+first_row (family ∷ rest) text = or_else (row_in family text) (first_row rest text)
+
+abbrev pub all_tags : List code_family.Family → List Tagged
+all_tags [] = []
+all_tags (family ∷ rest) = tags_with family ++ all_tags rest
+
+-- what is after a tag in a text that begins with its bytes
+abbrev pub after_tag : Text → Text → Option Text
+after_tag [] text = Some text
+after_tag (byte ∷ tag) [] = None
+after_tag (byte ∷ tag) (other ∷ rest) = if byte == folded other then after_tag tag rest else None
+
+-- the first of the tags that a text goes on with after a `-`
+abbrev pub first_after : List Tagged → Text → Option ℕ
+first_after tags [] = None
+first_after tags (sign ∷ text) = if 45 == folded sign then first_of tags text else None
+
+-- the number for a language that ends before this text, or for a longer tag of it
+abbrev pub row_after : ℕ → List Tagged → Text → Option ℕ
+row_after row more rest = or_else (first_after more rest) (if ends_here rest then Some row else None)
+
+-- the first that fits, of the lists of tags with this letter
+abbrev pub at_letter : List (ℕ × List Tagged) → ℕ → Text → Option ℕ
+at_letter [] letter text = None
+at_letter (of ∷ more) letter text = if letter == of.0 then first_of of.1 text else at_letter more letter text

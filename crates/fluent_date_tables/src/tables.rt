@@ -2,7 +2,7 @@
 ghost use Rattle.std.specs.Prelude.{◌≡◌};
 ghost use Rattle.std.specs.Prelude.{slice_get};
 ghost use Rattle.fluent_plurals.specs.Lookup.{begins_with_tag, folded};
-ghost use Rattle.fluent_date_tables.specs.Tables.{first_folded, first_of, found, list_at, nows, tags_of};
+ghost use Rattle.fluent_date_tables.specs.Tables.{after_tag, all_tags, first_after, first_folded, first_of, first_row, found, list_at, nows, row_after, row_in, tags_of};
 ghost use Rattle.fluent_date_tables.specs.Skeletons.{skeletons};
 ghost use Rattle.fluent_date_tables.specs.Rows.{rows};
 
@@ -43,11 +43,20 @@ pub struct Pair {
     pub pattern: u16,
 }
 
-/// A tag, in small letters with `-` between its parts, and the number of its row.
+/// What follows a language and a `-` in a tag, in small letters with `-` between its parts, and the
+/// number of that tag's row.
 #[derive(Clone, Copy)]
 pub(crate) struct Tagged {
     pub(crate) tag: &'static str,
     pub(crate) row: u16,
+}
+
+/// A language, in small letters, the number of its row, and its longer tags.
+#[derive(Clone, Copy)]
+pub(crate) struct Family {
+    pub(crate) language: &'static str,
+    pub(crate) row: u16,
+    pub(crate) more: &'static [Tagged],
 }
 
 /// What a locale writes dates by: mostly numbers of texts, and of lists of patterns.
@@ -152,8 +161,77 @@ pub fn row_numbered(number: usize) -> Option<&'static Row>
     row_at(&ROWS, number)
 }
 
+/// The row of the longest tag of these languages that a text begins with.
+#[tactic(auto, using(crate::proofs::Families::all_rows))]
+pub(crate) fn row_among(families: &[Family], text: &[u8]) -> Option<u16>
+    ensures { result ≡ first_of (all_tags families.now) text.now }
+{
+    first_row(families, text)
+}
+
+/// The row of the first of these languages that has a tag which a text begins with.
+fn first_row(families: &[Family], text: &[u8]) -> Option<u16>
+    ensures { result ≡ first_row families.now text.now }
+{
+    match families {
+        [] => None,
+        [family, others @ ..] => match row_in(family, text) {
+            Some(row) => Some(row),
+            None => first_row(others, text),
+        },
+    }
+}
+
+/// The row of the longest tag of a language that a text begins with.
+#[tactic(auto, using(crate::proofs::Families::family_row))]
+fn row_in(family: &Family, text: &[u8]) -> Option<u16>
+    ensures { result ≡ row_in family.now text.now }
+{
+    match after(family.language.as_bytes(), text) {
+        Some(rest) => row_after(family, rest),
+        None => None,
+    }
+}
+
+/// What is after a tag in a text that begins with its bytes.
+fn after<'t>(tag: &[u8], text: &'t [u8]) -> Option<&'t [u8]>
+    ensures { found result ≡ after_tag tag.now text.now }
+{
+    match tag {
+        [] => Some(text),
+        [byte, tag @ ..] => match text {
+            [other, text @ ..] if *byte == folded(*other) => after(tag, text),
+            _ => None,
+        },
+    }
+}
+
+/// The row of the longest tag of a language that a text has, of which this is after the language.
+fn row_after(family: &Family, rest: &[u8]) -> Option<u16>
+    ensures { result ≡ row_after family.now.row (tags_of family.now.more.now) rest.now }
+{
+    if let Some(row) = first_after(family.more, rest) {
+        return Some(row);
+    }
+    if begins_with_tag(b"", rest) {
+        Some(family.row)
+    } else {
+        None
+    }
+}
+
+/// The row of the first of the tags that a text goes on with after a `-`.
+fn first_after(tags: &[Tagged], rest: &[u8]) -> Option<u16>
+    ensures { result ≡ first_after (tags_of tags.now) rest.now }
+{
+    match rest {
+        [sign, text @ ..] if b'-' == folded(*sign) => first_fitting(tags, text),
+        _ => None,
+    }
+}
+
 /// The row of the first of the tags that a text begins with.
-pub(crate) fn first_fitting(tags: &[Tagged], text: &[u8]) -> Option<u16>
+fn first_fitting(tags: &[Tagged], text: &[u8]) -> Option<u16>
     ensures { result ≡ first_of (tags_of tags.now) text.now }
 {
     let first = first_folded(text);
@@ -166,7 +244,7 @@ pub(crate) fn first_fitting(tags: &[Tagged], text: &[u8]) -> Option<u16>
 }
 
 /// The first byte of a text as tags have it, or 0.
-fn first_folded(text: &[u8]) -> u8
+pub(crate) fn first_folded(text: &[u8]) -> u8
     ensures { result ≡ first_folded text.now }
 {
     match text {

@@ -1,145 +1,601 @@
-//! The tags, and the numbers of their rows. A longer tag is before one that it begins with.
+//! The tags, and the numbers of their rows.
 // Written by tools/dates from Unicode CLDR 48. Do not edit.
 ghost use Rattle.std.specs.Prelude.{◌≡◌};
-ghost use Rattle.fluent_date_tables.specs.Tags.{tags_1, tags_2, tags_3, tags_4, tags_5, row_for};
-ghost use Rattle.fluent_date_tables.specs.Tables.{first_of};
+ghost use Rattle.fluent_date_tables.specs.Tags.{tags_a, tags_b, tags_c, tags_d, tags_e, tags_f, tags_g, tags_h, tags_i, tags_j, tags_k, tags_l, tags_m, tags_n, tags_o, tags_p, tags_q, tags_r, tags_s, tags_t, tags_u, tags_v, tags_w, tags_x, tags_y, tags_z, row_for};
+ghost use Rattle.fluent_date_tables.specs.Tables.{at_letter, first_of};
+ghost use Rattle.fluent_date_tables.specs.Letters.{lettered};
 
-use crate::tables::{Tagged, first_fitting};
+use crate::tables::{Family, Tagged, first_folded, row_among};
 
-/// Tags and numbers.
-macro_rules! tags {
-    ($($tag:literal $row:literal,)*) => {
-        [$(Tagged { tag: $tag, row: $row }),*]
+/// A language with its row, and what may follow it with the row of both.
+macro_rules! family {
+    ($language:literal $row:literal, $($more:literal $both:literal,)*) => {
+        Family {
+            language: $language,
+            row: $row,
+            more: &[$(Tagged { tag: $more, row: $both }),*],
+        }
     };
 }
 
 /// The row of the longest tag that a text begins with.
+#[tactic(auto, using(crate::proofs::Letters::row_by_letter))]
 pub fn row_for(tag: &[u8]) -> Option<u16>
     ensures { result ≡ row_for tag.now }
 {
-    if let Some(row) = row_in_1(tag) {
-        return Some(row);
+    row_by_letter(first_folded(tag), tag)
+}
+
+/// The row of the longest tag of this first letter that a text begins with.
+fn row_by_letter(letter: u8, tag: &[u8]) -> Option<u16>
+    ensures { result ≡ at_letter lettered letter tag.now }
+{
+    match letter {
+        b'a' => row_in_a(tag),
+        b'b' => row_in_b(tag),
+        b'c' => row_in_c(tag),
+        b'd' => row_in_d(tag),
+        b'e' => row_in_e(tag),
+        b'f' => row_in_f(tag),
+        b'g' => row_in_g(tag),
+        b'h' => row_in_h(tag),
+        b'i' => row_in_i(tag),
+        b'j' => row_in_j(tag),
+        b'k' => row_in_k(tag),
+        b'l' => row_in_l(tag),
+        b'm' => row_in_m(tag),
+        b'n' => row_in_n(tag),
+        b'o' => row_in_o(tag),
+        b'p' => row_in_p(tag),
+        b'q' => row_in_q(tag),
+        b'r' => row_in_r(tag),
+        b's' => row_in_s(tag),
+        b't' => row_in_t(tag),
+        b'u' => row_in_u(tag),
+        b'v' => row_in_v(tag),
+        b'w' => row_in_w(tag),
+        b'x' => row_in_x(tag),
+        b'y' => row_in_y(tag),
+        b'z' => row_in_z(tag),
+        _ => None,
     }
-    if let Some(row) = row_in_2(tag) {
-        return Some(row);
-    }
-    if let Some(row) = row_in_3(tag) {
-        return Some(row);
-    }
-    if let Some(row) = row_in_4(tag) {
-        return Some(row);
-    }
-    row_in_5(tag)
 }
 
-static TAGS_1: [Tagged; 120] = tags![
-    "af-na" 249, "af" 1, "agq" 2, "ak" 3, "am" 4, "ar-bh" 250, "ar-dj" 250, "ar-dz" 251, "ar-eg" 250, "ar-er" 250,
-    "ar-il" 252, "ar-iq" 253, "ar-jo" 254, "ar-km" 255, "ar-kw" 250, "ar-lb" 254, "ar-ly" 256, "ar-ma" 257,
-    "ar-mr" 258, "ar-om" 250, "ar-ps" 254, "ar-qa" 250, "ar-sa" 259, "ar-sd" 250, "ar-so" 250, "ar-ss" 250,
-    "ar-sy" 254, "ar-td" 250, "ar-tn" 251, "ar-ye" 250, "ar" 5, "ars" 6, "as" 7, "asa" 8, "ast" 9, "az-cyrl" 260,
-    "az" 10, "ba" 11, "bas" 12, "be" 13, "bem" 14, "bez" 15, "bg" 16, "bgc" 17, "bho" 18, "blo" 19, "bm" 20,
-    "bn-in" 261, "bn" 21, "bo-in" 262, "bo" 22, "br" 23, "brx" 24, "bs-cyrl" 263, "bs" 25, "bua" 26, "ca" 27,
-    "ccp" 28, "ce" 29, "ceb" 30, "cgg" 31, "chr" 32, "ckb-ir" 264, "ckb" 33, "cs" 34, "csw" 35, "cv" 36, "cy" 37,
-    "da" 38, "dav" 39, "de-at" 265, "de-ch" 266, "de-it" 265, "de-li" 267, "de-lu" 268, "de" 40, "dje" 41, "doi" 42,
-    "dsb" 43, "dua" 44, "dyo" 45, "dz" 46, "ebu" 47, "ee-tg" 269, "ee" 48, "el" 49, "en-001" 270, "en-150" 271,
-    "en-ae" 272, "en-ag" 270, "en-ai" 271, "en-at" 273, "en-au" 274, "en-bb" 270, "en-be" 275, "en-bi" 276,
-    "en-bm" 270, "en-bs" 270, "en-bw" 277, "en-bz" 278, "en-ca" 279, "en-cc" 271, "en-ch" 280, "en-ck" 271,
-    "en-cm" 271, "en-cx" 271, "en-cy" 270, "en-cz" 273, "en-de" 273, "en-dg" 271, "en-dk" 281, "en-dm" 270,
-    "en-ee" 273, "en-er" 270, "en-es" 273, "en-fi" 282, "en-fj" 270, "en-fk" 271, "en-fm" 270, "en-fr" 273,
+static TAGS_A: [Family; 10] = [
+    family!["af" 1, "na" 249,],
+    family!["agq" 2,],
+    family!["ak" 3,],
+    family!["am" 4,],
+    family![
+        "ar" 5, "bh" 250, "dj" 250, "dz" 251, "eg" 250, "er" 250, "il" 252, "iq" 253, "jo" 254, "km" 255, "kw" 250,
+        "lb" 254, "ly" 256, "ma" 257, "mr" 258, "om" 250, "ps" 254, "qa" 250, "sa" 259, "sd" 250, "so" 250, "ss" 250,
+        "sy" 254, "td" 250, "tn" 251, "ye" 250,
+    ],
+    family!["ars" 6,],
+    family!["as" 7,],
+    family!["asa" 8,],
+    family!["ast" 9,],
+    family!["az" 10, "cyrl" 260,],
 ];
 
 /// The row of the longest tag of the table above that a text begins with.
-fn row_in_1(tag: &[u8]) -> Option<u16>
-    ensures { result ≡ first_of tags_1 tag.now }
+fn row_in_a(tag: &[u8]) -> Option<u16>
+    ensures { result ≡ first_of tags_a tag.now }
 {
-    first_fitting(&TAGS_1, tag)
+    row_among(&TAGS_A, tag)
 }
 
-static TAGS_2: [Tagged; 120] = tags![
-    "en-gb" 283, "en-gd" 270, "en-ge" 273, "en-gg" 271, "en-gh" 270, "en-gi" 271, "en-gm" 270, "en-gs" 271,
-    "en-gy" 270, "en-hk" 284, "en-hu" 273, "en-id" 285, "en-ie" 286, "en-il" 287, "en-im" 271, "en-in" 288,
-    "en-io" 271, "en-it" 273, "en-je" 271, "en-jm" 270, "en-jp" 289, "en-ke" 271, "en-ki" 270, "en-kn" 270,
-    "en-ky" 270, "en-lc" 270, "en-lr" 270, "en-ls" 270, "en-lt" 273, "en-lv" 273, "en-mg" 271, "en-mo" 270,
-    "en-ms" 271, "en-mt" 290, "en-mu" 271, "en-mv" 291, "en-mw" 270, "en-my" 270, "en-na" 270, "en-nf" 271,
-    "en-ng" 271, "en-nh" 270, "en-nl" 273, "en-no" 273, "en-nr" 271, "en-nu" 271, "en-nz" 292, "en-pg" 270,
-    "en-pk" 293, "en-pl" 273, "en-pn" 271, "en-pt" 273, "en-pw" 270, "en-rh" 294, "en-ro" 273, "en-rw" 271,
-    "en-sb" 270, "en-sc" 271, "en-sd" 270, "en-se" 295, "en-sg" 296, "en-sh" 271, "en-si" 273, "en-sk" 273,
-    "en-sl" 270, "en-ss" 270, "en-sx" 271, "en-sz" 270, "en-tc" 270, "en-tk" 271, "en-to" 270, "en-tt" 270,
-    "en-tv" 271, "en-tz" 271, "en-ua" 273, "en-ug" 271, "en-vc" 270, "en-vg" 270, "en-vu" 270, "en-ws" 270,
-    "en-za" 297, "en-zm" 270, "en-zw" 294, "en" 50, "eo" 51, "es-419" 298, "es-ar" 299, "es-bo" 300, "es-br" 301,
-    "es-bz" 301, "es-cl" 302, "es-co" 303, "es-cr" 304, "es-cu" 298, "es-do" 305, "es-ec" 304, "es-gt" 306,
-    "es-hn" 307, "es-mx" 308, "es-ni" 309, "es-pa" 310, "es-pe" 311, "es-ph" 312, "es-pr" 313, "es-py" 314,
-    "es-sv" 315, "es-us" 316, "es-uy" 317, "es-ve" 314, "es" 52, "et" 53, "eu" 54, "ewo" 55, "fa-af" 318, "fa" 56,
-    "ff-adlm-gh" 384, "ff-adlm-gm" 384, "ff-adlm-lr" 384, "ff-adlm-mr" 384, "ff-adlm-sl" 384,
+static TAGS_B: [Family; 16] = [
+    family!["ba" 11,],
+    family!["bas" 12,],
+    family!["be" 13,],
+    family!["bem" 14,],
+    family!["bez" 15,],
+    family!["bg" 16,],
+    family!["bgc" 17,],
+    family!["bho" 18,],
+    family!["blo" 19,],
+    family!["bm" 20,],
+    family!["bn" 21, "in" 261,],
+    family!["bo" 22, "in" 262,],
+    family!["br" 23,],
+    family!["brx" 24,],
+    family!["bs" 25, "cyrl" 263,],
+    family!["bua" 26,],
 ];
 
 /// The row of the longest tag of the table above that a text begins with.
-fn row_in_2(tag: &[u8]) -> Option<u16>
-    ensures { result ≡ first_of tags_2 tag.now }
+fn row_in_b(tag: &[u8]) -> Option<u16>
+    ensures { result ≡ first_of tags_b tag.now }
 {
-    first_fitting(&TAGS_2, tag)
+    row_among(&TAGS_B, tag)
 }
 
-static TAGS_3: [Tagged; 120] = tags![
-    "ff-adlm" 319, "ff-gh" 320, "ff-gm" 320, "ff-latn-gh" 320, "ff-latn-gm" 320, "ff-latn-lr" 320, "ff-latn-mr" 320,
-    "ff-latn-sl" 320, "ff-lr" 320, "ff-mr" 320, "ff-sl" 320, "ff" 57, "fi" 58, "fil" 59, "fo" 60, "fr-be" 321,
-    "fr-ca" 322, "fr-ch" 323, "fr-cm" 324, "fr-dj" 325, "fr-dz" 325, "fr-ht" 326, "fr-ma" 327, "fr-mr" 325,
-    "fr-re" 328, "fr-sn" 328, "fr-sy" 325, "fr-td" 325, "fr-tn" 325, "fr-vu" 325, "fr" 61, "fur" 62, "fy" 63,
-    "ga" 64, "gaa" 65, "gd" 66, "gl" 67, "gsw" 68, "gu" 69, "guz" 70, "gv" 71, "ha-gh" 329, "ha" 72, "haw" 73,
-    "he" 74, "hi-latn" 330, "hi" 75, "hr-ba" 331, "hr" 76, "hsb" 77, "hu" 78, "hy" 79, "ia" 80, "id" 81, "ie" 82,
-    "ig" 83, "ii" 84, "in" 85, "is" 86, "it-ch" 332, "it" 87, "iw" 88, "ja" 89, "jgo" 90, "jmc" 91, "jv" 92, "ka" 93,
-    "kab" 94, "kam" 95, "kde" 96, "kea" 97, "kgp" 98, "khq" 99, "ki" 100, "kk-arab" 333, "kk-cn" 333, "kk" 101,
-    "kkj" 102, "kl" 103, "kln" 104, "km" 105, "kn" 106, "ko-cn" 334, "ko" 107, "kok-latn" 335, "kok" 108,
-    "ks-deva" 336, "ks" 109, "ksb" 110, "ksf" 111, "ksh" 112, "ku-iq" 337, "ku-latn-iq" 337, "ku" 113, "kw" 114,
-    "kxv-deva" 338, "kxv-orya" 339, "kxv-telu" 340, "kxv" 115, "ky" 116, "lag" 117, "lb" 118, "lg" 119, "lij" 120,
-    "lkt" 121, "lmo" 122, "ln" 123, "lo" 124, "lrc-iq" 341, "lrc" 125, "lt" 126, "lu" 127, "luo" 128, "luy" 129,
-    "lv" 130, "mai" 131, "mas" 132, "mer" 133, "mfe" 134, "mg" 135,
+static TAGS_C: [Family; 11] = [
+    family!["ca" 27,],
+    family!["ccp" 28,],
+    family!["ce" 29,],
+    family!["ceb" 30,],
+    family!["cgg" 31,],
+    family!["chr" 32,],
+    family!["ckb" 33, "ir" 264,],
+    family!["cs" 34,],
+    family!["csw" 35,],
+    family!["cv" 36,],
+    family!["cy" 37,],
 ];
 
 /// The row of the longest tag of the table above that a text begins with.
-fn row_in_3(tag: &[u8]) -> Option<u16>
-    ensures { result ≡ first_of tags_3 tag.now }
+fn row_in_c(tag: &[u8]) -> Option<u16>
+    ensures { result ≡ first_of tags_c tag.now }
 {
-    first_fitting(&TAGS_3, tag)
+    row_among(&TAGS_C, tag)
 }
 
-static TAGS_4: [Tagged; 120] = tags![
-    "mgh" 136, "mgo" 137, "mi" 138, "mk" 139, "ml" 140, "mn" 141, "mni" 142, "mo" 143, "mr" 144, "ms-bn" 342,
-    "ms-id" 343, "ms" 145, "mt" 146, "mua" 147, "my" 148, "mzn" 149, "naq" 150, "nb" 151, "nd" 152, "nds" 153,
-    "ne-in" 344, "ne" 154, "nl-be" 345, "nl" 155, "nmg" 156, "nn" 157, "nnh" 158, "no" 151, "nqo" 159, "nso" 160,
-    "nus" 161, "nyn" 162, "oc-es" 346, "oc" 163, "om-ke" 347, "om" 164, "or" 165, "os" 166, "pa-arab" 348,
-    "pa-pk" 348, "pa" 167, "pcm" 168, "pl" 169, "pms" 170, "prg" 171, "ps-pk" 349, "ps" 172, "pt-ao" 350,
-    "pt-ch" 350, "pt-cv" 350, "pt-gq" 350, "pt-gw" 350, "pt-lu" 350, "pt-mo" 351, "pt-mz" 350, "pt-pt" 350,
-    "pt-st" 350, "pt-tl" 350, "pt" 173, "qu-bo" 352, "qu" 174, "raj" 175, "rm" 176, "rn" 177, "ro-md" 353, "ro" 178,
-    "rof" 179, "ru-ua" 354, "ru" 180, "rw" 181, "rwk" 91, "sa" 182, "sah" 183, "saq" 184, "sat" 185, "sbp" 186,
-    "sc" 187, "scn" 188, "sd-deva" 355, "sd-in" 355, "sd" 189, "se-fi" 356, "se" 190, "seh" 191, "ses" 192, "sg" 193,
-    "sh-ba" 357, "sh" 194, "shi-latn" 358, "shi" 195, "shn" 196, "si" 197, "sk" 198, "sl" 199, "smn" 200, "sn" 201,
-    "so-ke" 359, "so" 202, "sq-mk" 360, "sq-xk" 360, "sq" 203, "sr-ba" 361, "sr-cyrl-ba" 361, "sr-cyrl-me" 385,
-    "sr-cyrl-xk" 364, "sr-latn-ba" 386, "sr-latn-me" 363, "sr-latn-xk" 387, "sr-latn" 362, "sr-me" 363, "sr-xk" 364,
-    "sr" 204, "st-ls" 365, "st" 205, "su" 206, "sv-ax" 366, "sv-fi" 367, "sv" 207, "sw-cd" 368, "sw-ke" 369,
+static TAGS_D: [Family; 9] = [
+    family!["da" 38,],
+    family!["dav" 39,],
+    family!["de" 40, "at" 265, "ch" 266, "it" 265, "li" 267, "lu" 268,],
+    family!["dje" 41,],
+    family!["doi" 42,],
+    family!["dsb" 43,],
+    family!["dua" 44,],
+    family!["dyo" 45,],
+    family!["dz" 46,],
 ];
 
 /// The row of the longest tag of the table above that a text begins with.
-fn row_in_4(tag: &[u8]) -> Option<u16>
-    ensures { result ≡ first_of tags_4 tag.now }
+fn row_in_d(tag: &[u8]) -> Option<u16>
+    ensures { result ≡ first_of tags_d tag.now }
 {
-    first_fitting(&TAGS_4, tag)
+    row_among(&TAGS_D, tag)
 }
 
-static TAGS_5: [Tagged; 70] = tags![
-    "sw" 208, "syr" 209, "szl" 210, "ta-lk" 370, "ta" 211, "te" 212, "teo" 213, "tg" 214, "th" 215, "ti-er" 371,
-    "ti" 216, "tk" 217, "tl" 218, "tn" 219, "to" 220, "tok" 221, "tr-cy" 372, "tr" 222, "tt" 223, "twq" 224,
-    "tyv" 225, "tzm" 226, "ug" 227, "uk" 228, "und" 0, "ur-in" 373, "ur" 229, "uz-af" 374, "uz-arab" 374,
-    "uz-cyrl" 375, "uz" 230, "vai-latn" 376, "vai" 231, "vec" 232, "vi" 233, "vmw" 234, "vun" 91, "wae" 235,
-    "wo" 236, "xh" 237, "xnr" 238, "xog" 239, "yav" 240, "yi" 241, "yo-bj" 377, "yo" 242, "yrl-co" 378, "yrl-ve" 378,
-    "yrl" 243, "yue-cn" 379, "yue-hans" 379, "yue-hant-cn" 388, "yue" 244, "za" 245, "zgh" 246, "zh-hans-hk" 389,
-    "zh-hans-mo" 390, "zh-hans-my" 382, "zh-hans-sg" 383, "zh-hant-hk" 380, "zh-hant-mo" 380, "zh-hant-my" 391,
-    "zh-hant" 381, "zh-hk" 380, "zh-mo" 380, "zh-my" 382, "zh-sg" 383, "zh-tw" 381, "zh" 247, "zu" 248,
+static TAGS_E: [Family; 9] = [
+    family!["ebu" 47,],
+    family!["ee" 48, "tg" 269,],
+    family!["el" 49,],
+    family![
+        "en" 50, "001" 270, "150" 271, "ae" 272, "ag" 270, "ai" 271, "at" 273, "au" 274, "bb" 270, "be" 275,
+        "bi" 276, "bm" 270, "bs" 270, "bw" 277, "bz" 278, "ca" 279, "cc" 271, "ch" 280, "ck" 271, "cm" 271, "cx" 271,
+        "cy" 270, "cz" 273, "de" 273, "dg" 271, "dk" 281, "dm" 270, "ee" 273, "er" 270, "es" 273, "fi" 282, "fj" 270,
+        "fk" 271, "fm" 270, "fr" 273, "gb" 283, "gd" 270, "ge" 273, "gg" 271, "gh" 270, "gi" 271, "gm" 270, "gs" 271,
+        "gy" 270, "hk" 284, "hu" 273, "id" 285, "ie" 286, "il" 287, "im" 271, "in" 288, "io" 271, "it" 273, "je" 271,
+        "jm" 270, "jp" 289, "ke" 271, "ki" 270, "kn" 270, "ky" 270, "lc" 270, "lr" 270, "ls" 270, "lt" 273, "lv" 273,
+        "mg" 271, "mo" 270, "ms" 271, "mt" 290, "mu" 271, "mv" 291, "mw" 270, "my" 270, "na" 270, "nf" 271, "ng" 271,
+        "nh" 270, "nl" 273, "no" 273, "nr" 271, "nu" 271, "nz" 292, "pg" 270, "pk" 293, "pl" 273, "pn" 271, "pt" 273,
+        "pw" 270, "rh" 294, "ro" 273, "rw" 271, "sb" 270, "sc" 271, "sd" 270, "se" 295, "sg" 296, "sh" 271, "si" 273,
+        "sk" 273, "sl" 270, "ss" 270, "sx" 271, "sz" 270, "tc" 270, "tk" 271, "to" 270, "tt" 270, "tv" 271, "tz" 271,
+        "ua" 273, "ug" 271, "vc" 270, "vg" 270, "vu" 270, "ws" 270, "za" 297, "zm" 270, "zw" 294,
+    ],
+    family!["eo" 51,],
+    family![
+        "es" 52, "419" 298, "ar" 299, "bo" 300, "br" 301, "bz" 301, "cl" 302, "co" 303, "cr" 304, "cu" 298, "do" 305,
+        "ec" 304, "gt" 306, "hn" 307, "mx" 308, "ni" 309, "pa" 310, "pe" 311, "ph" 312, "pr" 313, "py" 314, "sv" 315,
+        "us" 316, "uy" 317, "ve" 314,
+    ],
+    family!["et" 53,],
+    family!["eu" 54,],
+    family!["ewo" 55,],
 ];
 
 /// The row of the longest tag of the table above that a text begins with.
-fn row_in_5(tag: &[u8]) -> Option<u16>
-    ensures { result ≡ first_of tags_5 tag.now }
+fn row_in_e(tag: &[u8]) -> Option<u16>
+    ensures { result ≡ first_of tags_e tag.now }
 {
-    first_fitting(&TAGS_5, tag)
+    row_among(&TAGS_E, tag)
+}
+
+static TAGS_F: [Family; 8] = [
+    family!["fa" 56, "af" 318,],
+    family![
+        "ff" 57, "adlm-gh" 384, "adlm-gm" 384, "adlm-lr" 384, "adlm-mr" 384, "adlm-sl" 384, "adlm" 319, "gh" 320,
+        "gm" 320, "latn-gh" 320, "latn-gm" 320, "latn-lr" 320, "latn-mr" 320, "latn-sl" 320, "lr" 320, "mr" 320,
+        "sl" 320,
+    ],
+    family!["fi" 58,],
+    family!["fil" 59,],
+    family!["fo" 60,],
+    family![
+        "fr" 61, "be" 321, "ca" 322, "ch" 323, "cm" 324, "dj" 325, "dz" 325, "ht" 326, "ma" 327, "mr" 325, "re" 328,
+        "sn" 328, "sy" 325, "td" 325, "tn" 325, "vu" 325,
+    ],
+    family!["fur" 62,],
+    family!["fy" 63,],
+];
+
+/// The row of the longest tag of the table above that a text begins with.
+fn row_in_f(tag: &[u8]) -> Option<u16>
+    ensures { result ≡ first_of tags_f tag.now }
+{
+    row_among(&TAGS_F, tag)
+}
+
+static TAGS_G: [Family; 8] = [
+    family!["ga" 64,],
+    family!["gaa" 65,],
+    family!["gd" 66,],
+    family!["gl" 67,],
+    family!["gsw" 68,],
+    family!["gu" 69,],
+    family!["guz" 70,],
+    family!["gv" 71,],
+];
+
+/// The row of the longest tag of the table above that a text begins with.
+fn row_in_g(tag: &[u8]) -> Option<u16>
+    ensures { result ≡ first_of tags_g tag.now }
+{
+    row_among(&TAGS_G, tag)
+}
+
+static TAGS_H: [Family; 8] = [
+    family!["ha" 72, "gh" 329,],
+    family!["haw" 73,],
+    family!["he" 74,],
+    family!["hi" 75, "latn" 330,],
+    family!["hr" 76, "ba" 331,],
+    family!["hsb" 77,],
+    family!["hu" 78,],
+    family!["hy" 79,],
+];
+
+/// The row of the longest tag of the table above that a text begins with.
+fn row_in_h(tag: &[u8]) -> Option<u16>
+    ensures { result ≡ first_of tags_h tag.now }
+{
+    row_among(&TAGS_H, tag)
+}
+
+static TAGS_I: [Family; 9] = [
+    family!["ia" 80,],
+    family!["id" 81,],
+    family!["ie" 82,],
+    family!["ig" 83,],
+    family!["ii" 84,],
+    family!["in" 85,],
+    family!["is" 86,],
+    family!["it" 87, "ch" 332,],
+    family!["iw" 88,],
+];
+
+/// The row of the longest tag of the table above that a text begins with.
+fn row_in_i(tag: &[u8]) -> Option<u16>
+    ensures { result ≡ first_of tags_i tag.now }
+{
+    row_among(&TAGS_I, tag)
+}
+
+static TAGS_J: [Family; 4] = [
+    family!["ja" 89,],
+    family!["jgo" 90,],
+    family!["jmc" 91,],
+    family!["jv" 92,],
+];
+
+/// The row of the longest tag of the table above that a text begins with.
+fn row_in_j(tag: &[u8]) -> Option<u16>
+    ensures { result ≡ first_of tags_j tag.now }
+{
+    row_among(&TAGS_J, tag)
+}
+
+static TAGS_K: [Family; 24] = [
+    family!["ka" 93,],
+    family!["kab" 94,],
+    family!["kam" 95,],
+    family!["kde" 96,],
+    family!["kea" 97,],
+    family!["kgp" 98,],
+    family!["khq" 99,],
+    family!["ki" 100,],
+    family!["kk" 101, "arab" 333, "cn" 333,],
+    family!["kkj" 102,],
+    family!["kl" 103,],
+    family!["kln" 104,],
+    family!["km" 105,],
+    family!["kn" 106,],
+    family!["ko" 107, "cn" 334,],
+    family!["kok" 108, "latn" 335,],
+    family!["ks" 109, "deva" 336,],
+    family!["ksb" 110,],
+    family!["ksf" 111,],
+    family!["ksh" 112,],
+    family!["ku" 113, "iq" 337, "latn-iq" 337,],
+    family!["kw" 114,],
+    family!["kxv" 115, "deva" 338, "orya" 339, "telu" 340,],
+    family!["ky" 116,],
+];
+
+/// The row of the longest tag of the table above that a text begins with.
+fn row_in_k(tag: &[u8]) -> Option<u16>
+    ensures { result ≡ first_of tags_k tag.now }
+{
+    row_among(&TAGS_K, tag)
+}
+
+static TAGS_L: [Family; 14] = [
+    family!["lag" 117,],
+    family!["lb" 118,],
+    family!["lg" 119,],
+    family!["lij" 120,],
+    family!["lkt" 121,],
+    family!["lmo" 122,],
+    family!["ln" 123,],
+    family!["lo" 124,],
+    family!["lrc" 125, "iq" 341,],
+    family!["lt" 126,],
+    family!["lu" 127,],
+    family!["luo" 128,],
+    family!["luy" 129,],
+    family!["lv" 130,],
+];
+
+/// The row of the longest tag of the table above that a text begins with.
+fn row_in_l(tag: &[u8]) -> Option<u16>
+    ensures { result ≡ first_of tags_l tag.now }
+{
+    row_among(&TAGS_L, tag)
+}
+
+static TAGS_M: [Family; 19] = [
+    family!["mai" 131,],
+    family!["mas" 132,],
+    family!["mer" 133,],
+    family!["mfe" 134,],
+    family!["mg" 135,],
+    family!["mgh" 136,],
+    family!["mgo" 137,],
+    family!["mi" 138,],
+    family!["mk" 139,],
+    family!["ml" 140,],
+    family!["mn" 141,],
+    family!["mni" 142,],
+    family!["mo" 143,],
+    family!["mr" 144,],
+    family!["ms" 145, "bn" 342, "id" 343,],
+    family!["mt" 146,],
+    family!["mua" 147,],
+    family!["my" 148,],
+    family!["mzn" 149,],
+];
+
+/// The row of the longest tag of the table above that a text begins with.
+fn row_in_m(tag: &[u8]) -> Option<u16>
+    ensures { result ≡ first_of tags_m tag.now }
+{
+    row_among(&TAGS_M, tag)
+}
+
+static TAGS_N: [Family; 14] = [
+    family!["naq" 150,],
+    family!["nb" 151,],
+    family!["nd" 152,],
+    family!["nds" 153,],
+    family!["ne" 154, "in" 344,],
+    family!["nl" 155, "be" 345,],
+    family!["nmg" 156,],
+    family!["nn" 157,],
+    family!["nnh" 158,],
+    family!["no" 151,],
+    family!["nqo" 159,],
+    family!["nso" 160,],
+    family!["nus" 161,],
+    family!["nyn" 162,],
+];
+
+/// The row of the longest tag of the table above that a text begins with.
+fn row_in_n(tag: &[u8]) -> Option<u16>
+    ensures { result ≡ first_of tags_n tag.now }
+{
+    row_among(&TAGS_N, tag)
+}
+
+static TAGS_O: [Family; 4] = [
+    family!["oc" 163, "es" 346,],
+    family!["om" 164, "ke" 347,],
+    family!["or" 165,],
+    family!["os" 166,],
+];
+
+/// The row of the longest tag of the table above that a text begins with.
+fn row_in_o(tag: &[u8]) -> Option<u16>
+    ensures { result ≡ first_of tags_o tag.now }
+{
+    row_among(&TAGS_O, tag)
+}
+
+static TAGS_P: [Family; 7] = [
+    family!["pa" 167, "arab" 348, "pk" 348,],
+    family!["pcm" 168,],
+    family!["pl" 169,],
+    family!["pms" 170,],
+    family!["prg" 171,],
+    family!["ps" 172, "pk" 349,],
+    family![
+        "pt" 173, "ao" 350, "ch" 350, "cv" 350, "gq" 350, "gw" 350, "lu" 350, "mo" 351, "mz" 350, "pt" 350, "st" 350,
+        "tl" 350,
+    ],
+];
+
+/// The row of the longest tag of the table above that a text begins with.
+fn row_in_p(tag: &[u8]) -> Option<u16>
+    ensures { result ≡ first_of tags_p tag.now }
+{
+    row_among(&TAGS_P, tag)
+}
+
+static TAGS_Q: [Family; 1] = [family!["qu" 174, "bo" 352,]];
+
+/// The row of the longest tag of the table above that a text begins with.
+fn row_in_q(tag: &[u8]) -> Option<u16>
+    ensures { result ≡ first_of tags_q tag.now }
+{
+    row_among(&TAGS_Q, tag)
+}
+
+static TAGS_R: [Family; 8] = [
+    family!["raj" 175,],
+    family!["rm" 176,],
+    family!["rn" 177,],
+    family!["ro" 178, "md" 353,],
+    family!["rof" 179,],
+    family!["ru" 180, "ua" 354,],
+    family!["rw" 181,],
+    family!["rwk" 91,],
+];
+
+/// The row of the longest tag of the table above that a text begins with.
+fn row_in_r(tag: &[u8]) -> Option<u16>
+    ensures { result ≡ first_of tags_r tag.now }
+{
+    row_among(&TAGS_R, tag)
+}
+
+static TAGS_S: [Family; 29] = [
+    family!["sa" 182,],
+    family!["sah" 183,],
+    family!["saq" 184,],
+    family!["sat" 185,],
+    family!["sbp" 186,],
+    family!["sc" 187,],
+    family!["scn" 188,],
+    family!["sd" 189, "deva" 355, "in" 355,],
+    family!["se" 190, "fi" 356,],
+    family!["seh" 191,],
+    family!["ses" 192,],
+    family!["sg" 193,],
+    family!["sh" 194, "ba" 357,],
+    family!["shi" 195, "latn" 358,],
+    family!["shn" 196,],
+    family!["si" 197,],
+    family!["sk" 198,],
+    family!["sl" 199,],
+    family!["smn" 200,],
+    family!["sn" 201,],
+    family!["so" 202, "ke" 359,],
+    family!["sq" 203, "mk" 360, "xk" 360,],
+    family![
+        "sr" 204, "ba" 361, "cyrl-ba" 361, "cyrl-me" 385, "cyrl-xk" 364, "latn-ba" 386, "latn-me" 363, "latn-xk" 387,
+        "latn" 362, "me" 363, "xk" 364,
+    ],
+    family!["st" 205, "ls" 365,],
+    family!["su" 206,],
+    family!["sv" 207, "ax" 366, "fi" 367,],
+    family!["sw" 208, "cd" 368, "ke" 369,],
+    family!["syr" 209,],
+    family!["szl" 210,],
+];
+
+/// The row of the longest tag of the table above that a text begins with.
+fn row_in_s(tag: &[u8]) -> Option<u16>
+    ensures { result ≡ first_of tags_s tag.now }
+{
+    row_among(&TAGS_S, tag)
+}
+
+static TAGS_T: [Family; 16] = [
+    family!["ta" 211, "lk" 370,],
+    family!["te" 212,],
+    family!["teo" 213,],
+    family!["tg" 214,],
+    family!["th" 215,],
+    family!["ti" 216, "er" 371,],
+    family!["tk" 217,],
+    family!["tl" 218,],
+    family!["tn" 219,],
+    family!["to" 220,],
+    family!["tok" 221,],
+    family!["tr" 222, "cy" 372,],
+    family!["tt" 223,],
+    family!["twq" 224,],
+    family!["tyv" 225,],
+    family!["tzm" 226,],
+];
+
+/// The row of the longest tag of the table above that a text begins with.
+fn row_in_t(tag: &[u8]) -> Option<u16>
+    ensures { result ≡ first_of tags_t tag.now }
+{
+    row_among(&TAGS_T, tag)
+}
+
+static TAGS_U: [Family; 5] = [
+    family!["ug" 227,],
+    family!["uk" 228,],
+    family!["und" 0,],
+    family!["ur" 229, "in" 373,],
+    family!["uz" 230, "af" 374, "arab" 374, "cyrl" 375,],
+];
+
+/// The row of the longest tag of the table above that a text begins with.
+fn row_in_u(tag: &[u8]) -> Option<u16>
+    ensures { result ≡ first_of tags_u tag.now }
+{
+    row_among(&TAGS_U, tag)
+}
+
+static TAGS_V: [Family; 5] = [
+    family!["vai" 231, "latn" 376,],
+    family!["vec" 232,],
+    family!["vi" 233,],
+    family!["vmw" 234,],
+    family!["vun" 91,],
+];
+
+/// The row of the longest tag of the table above that a text begins with.
+fn row_in_v(tag: &[u8]) -> Option<u16>
+    ensures { result ≡ first_of tags_v tag.now }
+{
+    row_among(&TAGS_V, tag)
+}
+
+static TAGS_W: [Family; 2] = [family!["wae" 235,], family!["wo" 236,]];
+
+/// The row of the longest tag of the table above that a text begins with.
+fn row_in_w(tag: &[u8]) -> Option<u16>
+    ensures { result ≡ first_of tags_w tag.now }
+{
+    row_among(&TAGS_W, tag)
+}
+
+static TAGS_X: [Family; 3] = [family!["xh" 237,], family!["xnr" 238,], family!["xog" 239,]];
+
+/// The row of the longest tag of the table above that a text begins with.
+fn row_in_x(tag: &[u8]) -> Option<u16>
+    ensures { result ≡ first_of tags_x tag.now }
+{
+    row_among(&TAGS_X, tag)
+}
+
+static TAGS_Y: [Family; 5] = [
+    family!["yav" 240,],
+    family!["yi" 241,],
+    family!["yo" 242, "bj" 377,],
+    family!["yrl" 243, "co" 378, "ve" 378,],
+    family!["yue" 244, "cn" 379, "hans" 379, "hant-cn" 388,],
+];
+
+/// The row of the longest tag of the table above that a text begins with.
+fn row_in_y(tag: &[u8]) -> Option<u16>
+    ensures { result ≡ first_of tags_y tag.now }
+{
+    row_among(&TAGS_Y, tag)
+}
+
+static TAGS_Z: [Family; 4] = [
+    family!["za" 245,],
+    family!["zgh" 246,],
+    family![
+        "zh" 247, "hans-hk" 389, "hans-mo" 390, "hans-my" 382, "hans-sg" 383, "hant-hk" 380, "hant-mo" 380,
+        "hant-my" 391, "hant" 381, "hk" 380, "mo" 380, "my" 382, "sg" 383, "tw" 381,
+    ],
+    family!["zu" 248,],
+];
+
+/// The row of the longest tag of the table above that a text begins with.
+fn row_in_z(tag: &[u8]) -> Option<u16>
+    ensures { result ≡ first_of tags_z tag.now }
+{
+    row_among(&TAGS_Z, tag)
 }

@@ -1,3 +1,4 @@
+pub mod Alone
 pub mod Edits
 pub mod Exact
 pub mod Fitting

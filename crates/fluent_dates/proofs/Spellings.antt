@@ -5,8 +5,8 @@ use Rattle.std.proofs.lemmas.Bool.{cases_lt, eqb-true}
 use Rattle.std.proofs.lemmas.Bool.Decides.{nat_tests}
 use Rattle.std.proofs.lemmas.Str.Ascii.{lowercase_is}
 use Rattle.fluent_plurals.specs.Lookup.{begins_with_tag, folded}
-use Rattle.fluent_date_tables.specs.Tables.{Tagged, Text, first_of, or_else}
-use Rattle.fluent_date_tables.specs.Tags.{tags_1, tags_2, tags_3, tags_4, tags_5}
+use Rattle.fluent_date_tables.specs.Tables.{Tagged, Text, first_in, first_of, or_else}
+use Rattle.fluent_date_tables.specs.Tags.{tags}
 use Rattle.fluent_dates.specs.Laws.{AreOneTag}
 use Rattle.fluent_dates.specs.Lookup.{locale_for, row_numbered}
 
@@ -59,10 +59,9 @@ first_alike [] a b same = refl
 first_alike (tagged ∷ tags) a b same =
     ap₂ (λ x y. if x then Some tagged.1 else y) (begins_alike tagged.0 a b same) (first_alike tags a b same)
 
+in_alike : (lists : List (List Tagged)) (a b : Text) → map folded a ≡ map folded b → first_in lists a ≡ first_in lists b
+in_alike [] a b same = refl
+in_alike (tags ∷ more) a b same = ap₂ or_else (first_alike tags a b same) (in_alike more a b same)
+
 pub spellings_share_locale : (a b : Text) → AreOneTag a b → locale_for a ≡ locale_for b
-spellings_share_locale a b same =
-    ap row_numbered
-    (ap₂ or_else (first_alike tags_1 a b same)
-    (ap₂ or_else (first_alike tags_2 a b same)
-    (ap₂ or_else (first_alike tags_3 a b same)
-    (ap₂ or_else (first_alike tags_4 a b same) (first_alike tags_5 a b same)))))
+spellings_share_locale a b same = ap row_numbered (in_alike tags a b same)

@@ -11,3 +11,4 @@ pub mod Called
 pub mod Shown
 pub mod Equivalent
 pub mod Exact
+pub mod Only

@@ -2,7 +2,7 @@
 ghost use Rattle.std.specs.Prelude.{◌≡◌};
 ghost use Rattle.fluent_dates.specs.Lookup.{locale_for, row_of};
 ghost use Rattle.fluent_dates.specs.Writing.{date_text};
-ghost use Rattle.fluent_dates.specs.Written.{IsText};
+ghost use Rattle.fluent_dates.specs.Written.{Adds, IsText};
 
 use crate::names::locale_for;
 use crate::patterns::pattern_of;
@@ -49,9 +49,25 @@ impl LocaleDates {
     pub fn text_of(&self, alloc: Global, value: &FluentDateTime) -> Result<String, AllocError>
         ensures { IsText result (date_text self.now.row.now value.now) }
     {
-        let items = pattern_of(alloc, self.row, value)?;
         let mut text = String::with_capacity(alloc, 48)?;
-        push_written(&mut text, self.row, &items, value)?;
+        self.push_text(alloc, &mut text, value)?;
         Ok(text)
+    }
+
+    /// Writes the text of a date and time after a text, as [`text_of`](LocaleDates::text_of) makes
+    /// it.
+    ///
+    /// # Errors
+    /// [`AllocError`] if memory runs out; `text` may hold a part of it then.
+    pub fn push_text(
+        &self,
+        alloc: Global,
+        text: &mut String,
+        value: &FluentDateTime,
+    ) -> Result<(), AllocError>
+        ensures { Adds result text.old text.new (date_text self.now.row.now value.now) }
+    {
+        let items = pattern_of(alloc, self.row, value)?;
+        push_written(text, self.row, &items, value)
     }
 }

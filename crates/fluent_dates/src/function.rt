@@ -4,6 +4,7 @@ ghost use Rattle.std.specs.Prelude.{IfOk};
 ghost use Rattle.fluent_dates.specs.Called.{date_called};
 ghost use Rattle.fluent_value.specs.CallResult.{IsCallResult};
 
+use crate::merging::merge_named;
 use crate::value::DateTimeValue;
 use fluent_value::{FluentArgs, FluentFunction, FluentValue};
 use std::alloc::{AllocError, Global};
@@ -25,7 +26,7 @@ pub fn DATETIME<'a, 'n>(
         return Ok(FluentValue::Error);
     };
     let mut date = date.0;
-    date.options.merge(named);
+    merge_named(&mut date.options, named);
     Ok(FluentValue::Custom(DateTimeValue(date)))
 }
 

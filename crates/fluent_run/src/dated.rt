@@ -189,8 +189,7 @@ impl<'p, 'x, M, L> Dating<'p, 'x, M, L> {
     {
         match &self.dates {
             Some(dates) => {
-                let text = dates.text_of(self.alloc, date)?;
-                out.push_str(text.as_str())?;
+                dates.push_text(self.alloc, out, date)?;
                 Ok(true)
             }
             None => Ok(false),

@@ -1,31 +1,72 @@
 //! Dates and times as texts of ISO 8601, written and read.
 
-use super::{DateError, FluentDateTime};
+use super::{DateError, FluentDateTime, Time};
 use std::fmt;
 use std::str::FromStr;
+
+/// Writes two digits.
+fn write_two<W: fmt::Write>(text: &mut W, number: u32) -> fmt::Result {
+    let digit = |number: u32| char::from_digit(number % 10, 10).unwrap_or('0');
+    text.write_char(digit(number / 10))?;
+    text.write_char(digit(number))
+}
+
+impl FluentDateTime {
+    /// Writes the text of ISO 8601, such as `2026-11-28T20:26:05+01:00`.
+    pub(super) fn write_iso<W: fmt::Write>(&self, text: &mut W) -> fmt::Result {
+        if self.year < 0 {
+            text.write_char('-')?;
+        }
+        let year = u32::from(self.year.unsigned_abs());
+        write_two(text, year / 100)?;
+        write_two(text, year)?;
+        text.write_char('-')?;
+        write_two(text, self.month.into())?;
+        text.write_char('-')?;
+        write_two(text, self.day.into())?;
+        match self.time {
+            Some(time) => self.write_clock(text, time),
+            None => Ok(()),
+        }
+    }
+
+    fn write_clock<W: fmt::Write>(&self, text: &mut W, time: Time) -> fmt::Result {
+        text.write_char('T')?;
+        write_two(text, time.hour.into())?;
+        text.write_char(':')?;
+        write_two(text, time.minute.into())?;
+        text.write_char(':')?;
+        write_two(text, time.second.into())?;
+        if time.nanosecond != 0 {
+            write!(text, ".{:09}", time.nanosecond)?;
+        }
+        match self.offset {
+            None => Ok(()),
+            Some(0) => text.write_char('Z'),
+            Some(offset) => write_offset(text, offset),
+        }
+    }
+}
+
+fn write_offset<W: fmt::Write>(text: &mut W, offset: i32) -> fmt::Result {
+    let ahead = offset.unsigned_abs();
+    text.write_char(if offset < 0 { '-' } else { '+' })?;
+    write_two(text, ahead / 3600)?;
+    text.write_char(':')?;
+    write_two(text, ahead / 60 % 60)?;
+    match ahead % 60 {
+        0 => Ok(()),
+        seconds => {
+            text.write_char(':')?;
+            write_two(text, seconds)
+        }
+    }
+}
 
 /// The text of ISO 8601, such as `2026-11-28T20:26:05+01:00`.
 impl fmt::Display for FluentDateTime {
     fn fmt(&self, f: &mut fmt::Formatter<'_>) -> fmt::Result {
-        let minus = if self.year < 0 { "-" } else { "" };
-        write!(f, "{minus}{:04}-{:02}-{:02}", self.year.unsigned_abs(), self.month, self.day)?;
-        let Some(time) = self.time else { return Ok(()) };
-        write!(f, "T{:02}:{:02}:{:02}", time.hour, time.minute, time.second)?;
-        if time.nanosecond != 0 {
-            write!(f, ".{:09}", time.nanosecond)?;
-        }
-        match self.offset {
-            None => Ok(()),
-            Some(0) => f.write_str("Z"),
-            Some(offset) => {
-                let (sign, ahead) = (if offset < 0 { '-' } else { '+' }, offset.unsigned_abs());
-                write!(f, "{sign}{:02}:{:02}", ahead / 3600, ahead / 60 % 60)?;
-                match ahead % 60 {
-                    0 => Ok(()),
-                    seconds => write!(f, ":{seconds:02}"),
-                }
-            }
-        }
+        self.write_iso(f)
     }
 }
 

@@ -1,8 +1,0 @@
-use Rattle.std.specs.Char.{encode_utf8}
-use Rattle.fluent_date_tables.specs.Tags.{tags_3}
-use Rattle.fluent_date_tables.proofs.tags.row_in_3.Goals as goal
-
--- the code's table and the definition's are the same, by computing
-pub returns : goal.returns
-unfolding tags_3 encode_utf8
-returns c = c.first_fitting.ensures
