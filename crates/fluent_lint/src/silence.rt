@@ -95,12 +95,14 @@ impl Silence<'_> {
 fn silences_of<'s>(alloc: Global, source: &'s str) -> Result<Vec<Silence<'s>>, AllocError>
     ensures { IfOk result (λ made. silences_view made.items ≡ silences source.now) }
 {
-    if memmem::find(source.as_bytes(), b"lint-ignore:").is_none() {
-        return Ok(Vec::new(alloc));
+    match memmem::find(source.as_bytes(), b"lint-ignore:") {
+        None => Ok(Vec::new(alloc)),
+        Some(_) => {
+            let lines = lines_of(alloc, source)?;
+            let end = sum(source.len(), 1)?;
+            silences_in(alloc, end, &lines)
+        }
     }
-    let lines = lines_of(alloc, source)?;
-    let end = sum(source.len(), 1)?;
-    silences_in(alloc, end, &lines)
 }
 
 /// What the comments of a file's lines leave out, which ends at an offset.
