@@ -36,8 +36,8 @@ before_the_first (argument ∷ others) some = record { argument = argument; stan
 
 -- there is no value, or one
 pub no-value : {A : Type 0} (o : Option A) → is_some o ≡ false → o ≡ None
-no-value None no = refl
-no-value (Some x) no = absurd (false≢true (sym no))
+no-value None lacks = refl
+no-value (Some x) lacks = absurd (false≢true (sym lacks))
 
 -- why one of the same arguments in another order isn't taken is why one of these isn't
 pub same_refused : (given sorted : List FluentArgument) (refusal : ArgumentRefusal) → IsPermutation given sorted → AreRefusedFor sorted refusal → AreRefusedFor given refusal

@@ -1,6 +1,6 @@
 //! The text of a message, from a bundle that is kept.
 
-ghost use Rattle.std.specs.Prelude.{◌≡◌, ◌≢◌, IfOk, MatchResult};
+ghost use Rattle.std.specs.Prelude.{◌≡◌, ◌≢◌, IfOk, OnErr, OnOk};
 ghost use Rattle.fluent_run.specs.ReplyView.{reply_view};
 ghost use Rattle.fluent_c.specs.Bundles.{HoldReply, HoldsLines, KeepsSame, Replies};
 ghost use Rattle.fluent_c.specs.Made.{HoldsSame};
@@ -44,8 +44,9 @@ pub(crate) fn hand_out(
     text: &mut FluentText,
     errors: &mut FluentText,
 ) -> Result<(), AllocError>
-    ensures { MatchResult result (λ _. HoldReply text.new errors.new (reply_view reply))
-        (λ _. HoldsSame text.new text.old × HoldsSame errors.new errors.old) }
+    ensures answered { OnOk result (HoldReply text.new errors.new (reply_view reply)) }
+    ensures unchanged { OnErr result
+        (HoldsSame text.new text.old × HoldsSame errors.new errors.old) }
 {
     let lines = error_lines(alloc, &reply)?;
     match fill(text, alloc, reply.text.into_bytes()) {

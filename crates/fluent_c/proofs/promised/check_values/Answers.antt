@@ -14,9 +14,9 @@ loop-argument-preserved c =
     All-more IsTaken c.args.given.now c.loop-argument.argument-index _ c.loop-argument-test.true c.loop-argument.invariant
     (All-get_or HasTexts c.args.given.now c.loop-argument.argument-index _ c.loop-argument-test.true c.requires, sym c.has_value.ensures ∙ c.if-not-has_value.false)
 
-pub returns-then-not-has_value : goal.returns-then-not-has_value
-returns-then-not-has_value c =
+pub returns-then-not-has_value-clause-refused : goal.returns-then-not-has_value-clause-refused
+returns-then-not-has_value-clause-refused c =
     record { argument = _; stands = Contains-get_or c.args.given.now c.loop-argument.argument-index _ c.loop-argument-test.true; refused = no-value _ (sym c.has_value.ensures ∙ c.if-not-has_value.true) }
 
-pub returns : goal.returns
-returns c = subst AreTaken (take_all c.loop-argument.argument-index c.args.given.now c.loop-argument-test.false) c.loop-argument.invariant
+pub returns-clause-taken : goal.returns-clause-taken
+returns-clause-taken c = subst AreTaken (take_all c.loop-argument.argument-index c.args.given.now c.loop-argument-test.false) c.loop-argument.invariant
