@@ -93,7 +93,7 @@ impl<'b, 'r, 's, M: MemoizerKind> FunctionDesk<'b, 'r, 's, M> {
     ) -> Result<Option<Outcome>, AllocError>
         ensures { IfOk result
             (Formats M.category_of K.otherwise self.now id.now attribute.entry
-                (A.arguments arguments.now) answers.now) }
+            (A.arguments arguments.now) answers.now) }
     {
         let Some(pattern) = self.desk.pattern_named(id, attribute) else {
             return Ok(None);

@@ -2,7 +2,9 @@
 //! pointers.
 //!
 //! A [`FluentBundle`] owns all of it and borrows nothing, so a program in C can keep one from call
-//! to call. [`tree`] writes the source of a tree that such a program gives as a JSON text.
+//! to call. Its arguments come as [`FluentArgument`]s, and [`Given`] finds one by its name where
+//! the program has it, so that a pattern that was looked up once is written without a copy of them.
+//! [`tree`] writes the source of a tree that such a program gives as a JSON text.
 #![tactic(auto)]
 
 mod bundle;

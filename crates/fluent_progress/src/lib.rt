@@ -10,6 +10,11 @@
 //! work on all this: counting, the path, fallbacks, values, variables, targets of references and
 //! choices among variants.
 //!
+//! Whoever has the arguments of a request in a form of its own implements [`Lookup`], which writes
+//! or copies the argument of a name from where it stands. [`WithArguments`] is another context with
+//! such arguments: a request that brings none has those. So none of them has to be put into
+//! `FluentArgs` first.
+//!
 //! A value of a term's own arguments is borrowed from the sources of the messages and terms. A
 //! value of the request's arguments may live shorter than they do, so it is written from where it
 //! stands, and copied where it becomes a selector or an argument. Contracts state each step by the

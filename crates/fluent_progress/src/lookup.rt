@@ -34,7 +34,7 @@ pub trait Lookup<C: FluentType> {
             ≡ is_some (argument name.now (arguments self.now))) }
         ensures text { OnOk result (string_bytes out.new ≡ string_bytes out.old ++
             given_text (shown_text (S.formatted scope.now) (S.shown scope.now))
-                (argument name.now (arguments self.now))) };
+            (argument name.now (arguments self.now))) };
 
     /// A copy of the argument of a name, which borrows nothing.
     ///
@@ -64,7 +64,7 @@ pub(crate) fn write_named<C: FluentType, F, E: Context<C, F>, A: Lookup<C>>(
         ≡ is_some (argument name.now (A.arguments arguments.now))) }
     ensures text { OnOk result (string_bytes out.new ≡ string_bytes out.old ++
         given_text (value_text (E.environment context.now))
-            (argument name.now (A.arguments arguments.now))) }
+        (argument name.now (A.arguments arguments.now))) }
 {
     arguments.write_argument(out, context, name)
 }

@@ -167,10 +167,7 @@ impl<'x, 'b, 'r, 's, M: MemoizerKind, F, L: Caller<NoCustom, F>> Context<NoCusto
         Ok(false)
     }
 
-    fn given_copy<'v>(
-        &self,
-        _name: &str,
-    ) -> Result<Option<FluentValue<'v, NoCustom>>, AllocError> {
+    fn given_copy<'v>(&self, _name: &str) -> Result<Option<FluentValue<'v, NoCustom>>, AllocError> {
         Ok(None)
     }
 
