@@ -73,6 +73,10 @@ called_in bundle id attribute arguments answers = reply_by (calling_in bundle an
 abbrev pub Gives : FluentBundle → Text → Text → List FluentArgument → List FluentArgument → FluentText → FluentText → Type 0
 Gives bundle id attribute arguments answers made errors = IsSomeAnd (called_in bundle id attribute arguments answers) (HoldReply made errors)
 
+-- they do if this is the status of a text
+abbrev pub GivesOnRead : ℕ → FluentBundle → Text → Text → List FluentArgument → List FluentArgument → FluentText → FluentText → Type 0
+GivesOnRead status bundle id attribute arguments answers made errors = status ≡ FLUENT_READ → Gives bundle id attribute arguments answers made errors
+
 -- there is no message of the id
 abbrev pub CallsNoMessage : FluentBundle → Text → List FluentArgument → Type 0
 CallsNoMessage bundle id answers = IsNone (message_by (calling_in bundle answers) (catalog_environment bundle.catalog) id)

@@ -3,7 +3,7 @@
 ghost use Rattle.std.specs.Prelude.{◌≡◌, ◌≢◌, IfOk, map, string_bytes};
 ghost use Rattle.fluent_c.specs.Answering.{texts_of};
 ghost use Rattle.fluent_c.specs.Bundles.{KeepsSame};
-ghost use Rattle.fluent_c.specs.Calling.{Calls, Gives, HoldsMissing, KeepsCalling, MakesCalling, refused_status};
+ghost use Rattle.fluent_c.specs.Calling.{Calls, GivesOnRead, HoldsMissing, KeepsCalling, MakesCalling, refused_status};
 ghost use Rattle.fluent_c.specs.Made.{HoldsSame};
 ghost use Rattle.fluent_c.specs.declared.TheConstants.{FLUENT_CALL, FLUENT_READ};
 
@@ -90,8 +90,8 @@ pub extern "C" fn fluent_bundle_call<'a>(
     call: &mut FluentText,
 ) -> u32
     ensures status { Calls bundle.old id.now attribute.now arguments.now answers.now result }
-    ensures answered { result ≡ FLUENT_READ
-        → Gives bundle.old id.now attribute.now arguments.now answers.now text.new errors.new }
+    ensures answered { GivesOnRead result bundle.old id.now attribute.now arguments.now answers.now
+        text.new errors.new }
     ensures missing { result ≡ FLUENT_CALL → HoldsMissing bundle.old answers.now call.new }
     ensures kept { KeepsSame bundle.new bundle.old }
     ensures unchanged { result ≢ FLUENT_READ

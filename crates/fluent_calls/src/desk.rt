@@ -217,12 +217,12 @@ impl<'b, 'r, 's, M: MemoizerKind> FunctionDesk<'b, 'r, 's, M> {
         &'x self,
         alloc: Global,
         pattern: &'r Pattern<&'s str>,
-        arguments: &'x A,
+        given: &'x A,
         answers: &'x FluentArgs<'_, DateTimeValue>,
         text: String,
     ) -> Result<Outcome, AllocError>
         ensures { IfOk result
-            (Resolves M.category_of K.otherwise self.now (A.arguments arguments.now) answers.now pattern.now) }
+            (Resolves M.category_of K.otherwise self.now (A.arguments given.now) answers.now pattern.now) }
     {
         let calls: Calls<'_, '_, K> = Calls {
             functions: self.functions,
@@ -240,7 +240,7 @@ impl<'b, 'r, 's, M: MemoizerKind> FunctionDesk<'b, 'r, 's, M> {
         };
         let context = WithArguments {
             context: &dating,
-            arguments,
+            arguments: given,
         };
         let none: Option<&'x FluentArgs<'s, DateTimeValue>> = None;
         let place = Surroundings {

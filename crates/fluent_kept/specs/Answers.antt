@@ -1,5 +1,6 @@
 -- Which answers there are to a question.
 use Rattle.std.specs.Prelude.{◌≡◌, Bool, true, false, List, [], Option, None, Some, IsNone, IsSome, IsSomeAnd, option_copied, string_bytes}
+use Rattle.std.specs.Option.{MatchOption}
 use denote.Ref.{Bor}
 use Rattle.fluent_answers.specs.Answers.{pattern_asked}
 use Rattle.fluent_calls.specs.Functions.{IsUnanswered, Table}
@@ -222,6 +223,10 @@ found false false = answer.NoMessage
 -- the answer of a catalog
 abbrev pub Answers : Catalog → Question → Answer → Type 0
 Answers catalog question answer = IsAnswer (catalog_environment catalog) (catalog_calling catalog) (catalog_ids catalog) (catalog_entries catalog) catalog.sources question answer
+
+-- the answer of a catalog if it is held, and else none
+abbrev pub AnswersIf : Bool → Catalog → Question → Option Answer → Type 0
+AnswersIf held catalog question result = MatchOption result (held ≡ false) (λ answer. (held ≡ true) × Answers catalog question answer)
 
 -- this is the answer of whatever catalog a desk answers as, and the desk still does
 abbrev pub AnswersAsIts : KeptDesk → KeptDesk → Question → Answer → Type 0

@@ -1,6 +1,7 @@
 -- What a bundle is made of, and what its parts are of that.
-use Rattle.std.specs.Prelude.{◌≡◌, ℕ, List, [], Option, None, Some, All, IfSome, IsSomeAnd, String, map, option_and_then, option_map, vec_items, string_bytes}
+use Rattle.std.specs.Prelude.{◌≡◌, ℕ, List, [], Option, None, Some, Result, All, IfSome, IsSomeAnd, String, map, option_and_then, option_map, vec_items, string_bytes}
 use Rattle.std.specs.declared.alloc.Global.{Global}
+use Rattle.std.specs.Result.{MatchResult}
 use denote.Ref.{Bor}
 use Rattle.fluent_answers.specs.Sources.{Settings, ids_of}
 use Rattle.fluent_ast.specs.declared.Message.{Message}
@@ -164,3 +165,7 @@ ForIts desk P = (catalog : Catalog) → IsDeskOf desk catalog → P catalog
 -- a desk answers as whatever catalog it was one of
 abbrev pub StaysDesk : KeptDesk → KeptDesk → Type 0
 StaysDesk old new = ForIts old (IsDeskOf new)
+
+-- a result of one kind or the other, each of which has this catalog
+abbrev pub IsOfEither : {S B : Type 0} → (S → Catalog) → (B → Catalog) → Catalog → Result S B → Type 0
+IsOfEither in_one in_other catalog result = MatchResult result (λ one. in_one one ≡ catalog) (λ other. in_other other ≡ catalog)

@@ -52,6 +52,10 @@ value_seen found = option_map (value_view (λ c. c.0)) found
 abbrev pub pair_of : FluentArgument → Text × Value FluentDateTime
 pair_of a = (a.name.now, unwrap_or (value_given a) none)
 
+-- what an argument stands for
+abbrev pub meant : FluentArgument → Value FluentDateTime
+meant a = (pair_of a).1
+
 -- the values of arguments by their names: of those of one name the last counts
 abbrev pub given_view : List FluentArgument → List (Text × Value FluentDateTime)
 given_view given = all_set [] (map pair_of given)

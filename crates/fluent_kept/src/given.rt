@@ -1,13 +1,14 @@
 //! The arguments of a message, as a caller that isn't Rattle passes them.
 
-ghost use Rattle.std.specs.Prelude.{◌≡◌, ◌++◌, All, List, OnOk, string_bytes};
+ghost use Rattle.std.specs.Prelude.{◌≡◌, All, List};
 ghost use Rattle.fluent_date.specs.declared.date_time.FluentDateTime.{FluentDateTime as Date};
 ghost use Rattle.fluent_grammar.specs.Words.{Text};
+ghost use Rattle.fluent_progress.specs.Resolves.{Appends};
 ghost use Rattle.fluent_value.specs.Args.{argument};
 ghost use Rattle.fluent_value.specs.Shown.{shown_text};
 ghost use Rattle.fluent_value.specs.Value.{Value as Plain};
 ghost use Rattle.fluent_value.specs.View.{value_view};
-ghost use Rattle.fluent_kept.specs.Given.{HasTexts, IsAmong, date_given, float_given, found_value, given_view, number_given, pair_of, value_given, value_seen};
+ghost use Rattle.fluent_kept.specs.Given.{HasTexts, IsAmong, date_given, float_given, found_value, given_view, meant, number_given, pair_of, value_given, value_seen};
 
 use crate::{
     FLUENT_DATETIME, FLUENT_DECIMAL, FLUENT_FLOAT, FLUENT_INTEGER, FLUENT_NO_VALUE, FLUENT_TEXT,
@@ -178,13 +179,14 @@ fn push_value<S: ValueScope<DateTimeValue>>(
     argument: &FluentArgument<'_>,
 ) -> Result<(), AllocError>
     requires { HasTexts argument.now }
-    ensures { OnOk result (string_bytes out.new ≡ string_bytes out.old
-        ++ shown_text (S.formatted scope.now) (S.shown scope.now) (pair_of argument.now).1) }
+    ensures { Appends result out.old out.new
+        (shown_text (S.formatted scope.now) (S.shown scope.now) (meant argument.now)) }
 {
     value_in(argument).append_to(out, scope)
 }
 
-/// The same. Most texts are written as they are.
+/// Appends the text of an argument whose name and text are UTF-8. Most texts are written as they
+/// are.
 ///
 /// # Errors
 /// [`AllocError`] if memory runs out; `out` may hold a part of the text.
@@ -194,8 +196,8 @@ fn push_argument<S: ValueScope<DateTimeValue>>(
     argument: &FluentArgument<'_>,
 ) -> Result<(), AllocError>
     requires { HasTexts argument.now }
-    ensures { OnOk result (string_bytes out.new ≡ string_bytes out.old
-        ++ shown_text (S.formatted scope.now) (S.shown scope.now) (pair_of argument.now).1) }
+    ensures { Appends result out.old out.new
+        (shown_text (S.formatted scope.now) (S.shown scope.now) (meant argument.now)) }
 {
     if argument.kind == FLUENT_TEXT && scope.keeps_texts() {
         return out.push_str(unsafe { from_utf8_unchecked(argument.text) });

@@ -2,7 +2,7 @@
 
 ghost use Rattle.std.specs.Prelude.{◌≡◌, true, false, IfOk};
 ghost use Rattle.std.specs.Option.{MatchOption};
-ghost use Rattle.fluent_kept.specs.Answers.{Answers};
+ghost use Rattle.fluent_kept.specs.Answers.{AnswersIf};
 ghost use Rattle.fluent_kept.specs.Catalogs.{Catalog, catalog_of};
 ghost use Rattle.fluent_kept.specs.Handle.{handle_owns};
 
@@ -106,8 +106,7 @@ impl FluentBundle {
 
     /// The answer to a question, or `None` if there is no bundle.
     pub fn ask(&mut self, alloc: Global, question: &Question<'_>) -> Option<Answer>
-        ensures answer { MatchOption result (self.old.held ≡ false)
-            (λ answer. (self.old.held ≡ true) × Answers self.old.catalog question.now answer) }
+        ensures answer { AnswersIf self.old.held self.old.catalog question.now result }
         ensures kept { (self.new.held ≡ self.old.held)
             × (self.old.held ≡ true → self.new.catalog ≡ self.old.catalog) }
     {

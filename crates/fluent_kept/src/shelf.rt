@@ -2,8 +2,7 @@
 
 ghost use Rattle.std.specs.Prelude.{◌≡◌, ℕ};
 ghost use base.Fml.{fex};
-ghost use Rattle.std.specs.Result.{MatchResult};
-ghost use Rattle.fluent_kept.specs.Catalogs.{Catalog, catalog_of};
+ghost use Rattle.fluent_kept.specs.Catalogs.{Catalog, IsOfEither, catalog_of};
 ghost use Rattle.fluent_kept.specs.Kept.{shelf_owns};
 
 use crate::loose::RawBox;
@@ -29,8 +28,8 @@ impl KeptSources {
         alloc: Global,
         sources: RawBox<Sources, Global>,
     ) -> Result<KeptSources, RawBox<Sources, Global>>
-        ensures { MatchResult result (λ shelf. shelf.catalog ≡ catalog_of sources.value)
-            (λ back. catalog_of back.value ≡ catalog_of sources.value) }
+        ensures { IsOfEither (λ shelf. shelf.catalog) (λ back. catalog_of back.value)
+            (catalog_of sources.value) result }
     {
         let RawBox { at, alloc: handle } = sources;
         match read_out(alloc, unsafe { &*at }) {
