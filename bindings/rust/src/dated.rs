@@ -4,13 +4,13 @@
 /// else: of another expression, or of an argument of a term.
 ///
 /// More variables than these do no harm, and neither does `None`: then the package answers the calls.
-pub(crate) fn dated<'s>(sources: impl Iterator<Item = &'s str>) -> Option<Vec<Box<str>>> {
-    let (mut names, mut have_arguments) = (Vec::new(), false);
-    for source in sources {
+pub(crate) fn dated<'s>(sources: impl Iterator<Item = &'s str> + Clone) -> Option<Vec<Box<str>>> {
+    let mut names = Vec::new();
+    for source in sources.clone() {
         add_dated(source, &mut names)?;
-        have_arguments |= have_terms_arguments(source);
     }
-    (names.is_empty() || !have_arguments).then_some(names)
+    let are_all = names.is_empty() || !sources.clone().any(have_terms_arguments);
+    are_all.then_some(names)
 }
 
 /// Adds the variables that calls of `DATETIME` in a source are of, or gives `None` if one is of another expression.
@@ -32,13 +32,12 @@ fn add_dated(source: &str, names: &mut Vec<Box<str>>) -> Option<()> {
     Some(())
 }
 
-/// Whether a term may be called with arguments: there is `-brand(` after a brace or in arguments.
+/// Whether a term may be called with arguments: there is `-brand(` or `-brand.attribute(` after a brace or in arguments.
 fn have_terms_arguments(source: &str) -> bool {
-    source.match_indices('-').any(|(at, _)| {
-        let is_begun = blanks_cut_at_end(&source[..at]).ends_with(['{', '(', ',']);
-        let name = &source[at + 1..];
-        let rest = &name[identifier_end(name)..];
-        is_begun && (blanks_cut(rest).starts_with('(') || rest.starts_with('.'))
+    source.match_indices('(').any(|(at, _)| {
+        let called = blanks_cut_at_end(&source[..at]);
+        let before = called.trim_end_matches(|each| is_of_identifier(each) || each == '.');
+        called[before.len()..].starts_with('-') && blanks_cut_at_end(before).ends_with(['{', '(', ','])
     })
 }
 
@@ -83,6 +82,7 @@ mod tests {
             ("a = { DATETIME(NAME($day)) }", None),
             ("-t = { DATETIME($day) }\na = { -t(day: 3) }", None),
             ("-t = { DATETIME($day) }\na = {\n    -t\n    (day: 3) }", None),
+            ("-t = { DATETIME($day) }\na = { -t.b(day: 3) ->\n   *[c] D\n}", None),
             ("-t = { DATETIME($day) }\na = { -t } e-mail (1)", Some(vec!["day"])),
         ];
         for (source, names) in rows {
