@@ -130,7 +130,8 @@ fn answer_to<'a>(
     Ok(bundle.ask(alloc, &question))
 }
 
-/// The same for many arguments, which are put in the order of their names.
+/// What a bundle answers for a pattern with many arguments, which are put in the order of their
+/// names.
 ///
 /// # Errors
 /// Those of [`answer_to`].

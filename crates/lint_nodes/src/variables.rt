@@ -42,8 +42,8 @@ pub fn variables_of<'i, 's: 'i, F>(
     Ok(reached.variables)
 }
 
-/// The same of an id that stands for this message. The message isn't looked up again, if it refers
-/// to no other.
+/// The variables that a message is shown with whose id stands for this one. It isn't looked up
+/// again, if it refers to no other.
 ///
 /// # Errors
 /// [`AllocError`] if memory runs out; nothing is kept.
