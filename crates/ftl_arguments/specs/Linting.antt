@@ -13,7 +13,7 @@ use Rattle.lint_findings.specs.Output.{Format, text, terminal, lines, json, gith
 pub record Lint : Type 0 where
   -- the files of the catalog that is translated from, and folders with such files
   pub references : List Text
-  -- the names of functions that the program adds
+  -- the names of the functions that are known beside `NUMBER`
   pub functions : List Text
   -- the codes of findings that are left out
   pub ignored : List Text
@@ -101,6 +101,10 @@ is_function_name name = begins is_capital name && list_all is_callee_byte name
 abbrev pub functions_in : List Row → List Text
 functions_in rows = values_in (codes "function") rows
 
+-- The functions that are known beside `NUMBER`. Bundles of the packages have `DATETIME`, and so has `format`.
+abbrev pub known_functions : List Row → List Text
+known_functions rows = codes "DATETIME" ∷ functions_in rows
+
 -- the values of `--reference`
 abbrev pub references_in : List Row → List Text
 references_in rows = values_in (codes "reference") rows
@@ -159,7 +163,7 @@ report_format_in rows = option_and_then (λ format. option_map (format_by format
 abbrev pub lint_with : List Row → Format → Lint
 lint_with rows report_format = record {
   references = references_in rows;
-  functions = functions_in rows;
+  functions = known_functions rows;
   ignored = ignored_in rows;
   locale = locale_in rows;
   notes = is_given (codes "notes") rows || is_selecting rows;

@@ -85,7 +85,7 @@ pub struct Format<'words> {
 pub struct Lint<'words> {
     /// The names of the files that are translated from, and of folders with such files.
     pub references: Vec<&'words str>,
-    /// The names of the functions that the program adds.
+    /// The names of the functions that are known beside `NUMBER`.
     pub functions: Vec<&'words str>,
     /// The codes of findings that are left out.
     pub ignored: Vec<&'words str>,
@@ -126,7 +126,7 @@ pub struct ProjectLint<'words> {
     /// The names of the files that are reported, and of folders with such files. Without any, all
     /// are.
     pub only: Vec<&'words str>,
-    /// The names of the functions that the program adds.
+    /// The names of the functions that are known beside `NUMBER`.
     pub functions: Vec<&'words str>,
     /// The codes of findings that are left out.
     pub ignored: Vec<&'words str>,

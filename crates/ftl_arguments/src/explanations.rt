@@ -206,9 +206,9 @@ of them. Take one of them out.
         "unknown-function",
         "unknown-function
 
-A warning. Only your program knows its functions. If it has this one, say so by
-`--function PLATFORM`. If not, users see `{PLATFORM()}`: take the call out, or
-mend its name.
+A warning. `NUMBER` and `DATETIME` are known, and only your program knows its
+own functions. If it has this one, say so by `--function PLATFORM`. If not,
+users see `{PLATFORM()}`: take the call out, or mend its name.
 
     $ cat unknown-function.ftl
     keys = { PLATFORM() }

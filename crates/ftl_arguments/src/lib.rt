@@ -29,5 +29,6 @@ pub use commands::{
 };
 pub use errors::CommandError;
 pub use lint_report::Format as ReportFormat;
+pub use linting::DATETIME;
 pub use reading::command;
 pub use version::VERSION;

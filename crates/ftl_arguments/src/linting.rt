@@ -2,7 +2,7 @@
 ghost use Rattle.std.specs.Prelude.{◌≡◌, ◌||◌, IfErr, IfOk, Some, None, codes, false, not, option_map, true};
 ghost use Rattle.std.specs.List.{list_all};
 ghost use Rattle.ftl_arguments.specs.Linting.{colours_in, colours_named, format_by, format_in, format_named, lint_in, report_format_in};
-ghost use Rattle.ftl_arguments.specs.Linting.{functions_in, has_what_it_counts, is_any, is_code, is_finding_code, is_function_name, is_selecting, references_in};
+ghost use Rattle.ftl_arguments.specs.Linting.{functions_in, has_what_it_counts, is_any, is_code, is_finding_code, is_function_name, is_selecting, known_functions, references_in};
 ghost use Rattle.ftl_arguments.specs.Found.{is_given};
 ghost use Rattle.fluent_grammar.specs.Words.{begins, is_callee_byte, is_capital};
 ghost use Rattle.ftl_arguments.specs.Meaning.{texts};
@@ -16,6 +16,9 @@ use crate::reading::{WordsError, is_given, locale_in, values_in};
 use clap::ArgMatches;
 use lint_report::Format as ReportFormat;
 use std::alloc::Global;
+
+/// The function for dates. Bundles of the packages have it, and so has `format`; `run` has not.
+pub const DATETIME: &str = "DATETIME";
 
 /// The codes that findings have.
 pub(crate) const CODES: [&str; 66] = [
@@ -108,7 +111,7 @@ pub(crate) fn lint_in<'words>(
         return Err(WordsError::Bad);
     };
     let ignored = ignored_in(alloc, found)?;
-    let functions = functions_in(alloc, found)?;
+    let functions = known_functions(alloc, found)?;
     let references = references_in(alloc, found)?;
     Ok(Lint {
         references,
@@ -123,7 +126,26 @@ pub(crate) fn lint_in<'words>(
     })
 }
 
-/// The functions that the program adds, if messages can call them.
+/// The functions that are known beside `NUMBER`: `DATETIME`, and those of the program, if messages
+/// can call these.
+fn known_functions<'words>(
+    alloc: Global,
+    found: &ArgMatches<'words>,
+) -> Result<Vec<&'words str>, WordsError>
+    ensures values { IfOk result (λ values. texts values.items ≡ known_functions (found_rows found.now)) }
+    ensures callable { IfOk result (λ _.
+        list_all is_function_name (functions_in (found_rows found.now)) ≡ true) }
+    ensures uncallable { IfRefused result
+        (list_all is_function_name (functions_in (found_rows found.now)) ≡ false) }
+{
+    let named = functions_in(alloc, found)?;
+    let mut known = Vec::new(alloc);
+    known.push(DATETIME)?;
+    known.extend_from_slice(&named)?;
+    Ok(known)
+}
+
+/// The functions of the program, if messages can call them.
 fn functions_in<'words>(
     alloc: Global,
     found: &ArgMatches<'words>,

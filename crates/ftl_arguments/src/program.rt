@@ -349,7 +349,7 @@ fn argument<'a>(alloc: Global) -> Arg<'a>
     ensures { IsLocal (each_rule (codes "argument")) result }
 {
     each(alloc, "argument", "NAME=VALUE").help(
-        "Pass a value (repeatable); `3` and `1.50` are numbers",
+        "Pass a text or number, or a date as NAME:date=2026-11-28 (repeatable)",
     )
 }
 

@@ -16,7 +16,7 @@ use crate::table::{rows_of, table};
 use crate::wrong::ProjectError;
 use fluent_lint::Output;
 use fluent_project::{Setting, references_of};
-use ftl_arguments::{ProjectLint, ProjectWords, Status};
+use ftl_arguments::{DATETIME, ProjectLint, ProjectWords, Status};
 use ftl_files::{Folder, Found, Reported, find_sources};
 use std::alloc::{AllocError, Global};
 
@@ -295,8 +295,9 @@ impl Asked<'_> {
     fn functions<'f>(&'f self, project: &'f Project<'_>) -> Result<Vec<&'f str>, AllocError> {
         let mut functions = Vec::new(self.alloc);
         functions.extend_from_slice(&project.functions)?;
-        if let Work::Lint(lint, _) = self.work {
-            functions.extend_from_slice(&lint.functions)?;
+        match self.work {
+            Work::Lint(lint, _) => functions.extend_from_slice(&lint.functions)?,
+            Work::Status(_) => functions.push(DATETIME)?,
         }
         Ok(functions)
     }
