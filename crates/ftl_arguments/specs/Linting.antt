@@ -103,7 +103,7 @@ functions_in rows = values_in (codes "function") rows
 
 -- The functions that are known beside `NUMBER`. Bundles of the packages have `DATETIME`, and so has `format`.
 abbrev pub known_functions : List Row → List Text
-known_functions rows = codes "DATETIME" ∷ functions_in rows
+known_functions rows = functions_in rows ++ codes "DATETIME" ∷ []
 
 -- the values of `--reference`
 abbrev pub references_in : List Row → List Text

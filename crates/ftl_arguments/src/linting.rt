@@ -1,5 +1,5 @@
 //! What `lint` is asked for.
-ghost use Rattle.std.specs.Prelude.{◌≡◌, ◌||◌, IfErr, IfOk, Some, None, codes, false, not, option_map, true};
+ghost use Rattle.std.specs.Prelude.{◌≡◌, ◌||◌, ◌++◌, ◌∷◌, [], IfErr, IfOk, Some, None, codes, false, not, option_map, true};
 ghost use Rattle.std.specs.List.{list_all};
 ghost use Rattle.ftl_arguments.specs.Linting.{colours_in, colours_named, format_by, format_in, format_named, lint_in, report_format_in};
 ghost use Rattle.ftl_arguments.specs.Linting.{functions_in, has_what_it_counts, is_any, is_code, is_finding_code, is_function_name, is_selecting, known_functions, references_in};
@@ -15,7 +15,7 @@ use crate::explaining::asks_explanation;
 use crate::reading::{WordsError, is_given, locale_in, values_in};
 use clap::ArgMatches;
 use lint_report::Format as ReportFormat;
-use std::alloc::Global;
+use std::alloc::{AllocError, Global};
 
 /// The function for dates. Bundles of the packages have it, and so has `format`; `run` has not.
 pub const DATETIME: &str = "DATETIME";
@@ -126,8 +126,8 @@ pub(crate) fn lint_in<'words>(
     })
 }
 
-/// The functions that are known beside `NUMBER`: `DATETIME`, and those of the program, if messages
-/// can call these.
+/// The functions that are known beside `NUMBER`: those of the program, if messages can call them,
+/// and `DATETIME`.
 fn known_functions<'words>(
     alloc: Global,
     found: &ArgMatches<'words>,
@@ -139,9 +139,18 @@ fn known_functions<'words>(
         (list_all is_function_name (functions_in (found_rows found.now)) ≡ false) }
 {
     let named = functions_in(alloc, found)?;
-    let mut known = Vec::new(alloc);
+    Ok(with_dates(named)?)
+}
+
+/// These functions and `DATETIME`.
+///
+/// # Errors
+/// [`AllocError`] if memory runs out; nothing is kept.
+fn with_dates<'words>(functions: Vec<&'words str>) -> Result<Vec<&'words str>, AllocError>
+    ensures { IfOk result (λ known. texts known.items ≡ texts functions.items ++ codes "DATETIME" ∷ []) }
+{
+    let mut known = functions;
     known.push(DATETIME)?;
-    known.extend_from_slice(&named)?;
     Ok(known)
 }
 
