@@ -1,4 +1,4 @@
-//! What is wrong with command-line arguments, in words.
+//! The line that says what is wrong with command-line arguments.
 
 use crate::elsewhere::meant_by;
 use crate::refusals::Refused;

@@ -1,4 +1,4 @@
-//! What `format` is asked for.
+//! The command `format`, from what `clap` found for it.
 ghost use Rattle.std.specs.Prelude.{◌≡◌, IfOk, Some, None, option_map};
 ghost use Rattle.fluent_serve.specs.Requests.{argument_of, arguments_of};
 ghost use Rattle.fluent_serve.specs.Text.{cut_at, dot, equals};
@@ -12,7 +12,7 @@ use clap::ArgMatches;
 use fluent_serve::cut::cut;
 use std::alloc::{AllocError, Global};
 
-/// What was found for `format`.
+/// Reads what was found for `format`.
 ///
 /// # Errors
 /// [`WordsError::Bad`]: an argument has no equals sign. [`WordsError::Memory`]: memory ran out.

@@ -1,4 +1,4 @@
-//! What `lint` is asked for.
+//! The command `lint`, from what `clap` found for it.
 ghost use Rattle.std.specs.Prelude.{◌≡◌, ◌||◌, IfErr, IfOk, Some, None, codes, false, not, option_map, true};
 ghost use Rattle.std.specs.List.{list_all};
 ghost use Rattle.ftl_arguments.specs.Linting.{colours_in, colours_named, format_by, format_in, format_named, lint_in, report_format_in};
@@ -87,7 +87,7 @@ pub(crate) const CODES: [&str; 66] = [
     "unused-ignore",
 ];
 
-/// What was found for `lint`.
+/// Reads what was found for `lint`.
 ///
 /// # Errors
 /// [`WordsError::Bad`]: an explanation is asked for; there is no such format or choice of colours;

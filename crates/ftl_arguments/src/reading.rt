@@ -67,7 +67,7 @@ pub fn command<'words>(
     }
 }
 
-/// What was met: the explanation of a code, or a command, or what is wrong with it.
+/// The explanation of a code, or the command that was met, or what is wrong with it.
 fn met<'words>(
     alloc: Global,
     words: &[&str],
@@ -176,7 +176,7 @@ fn command_named<'words>(
     }
 }
 
-/// The same for a command that tidies.
+/// The command of a name that tidies, with what was found for it.
 fn tidying_named<'words>(
     alloc: Global,
     name: &str,
