@@ -8,7 +8,7 @@ use ftl_files::Reported;
 /// How a command ended that met no fault.
 #[derive(Debug, PartialEq, Eq, Drop)]
 pub enum Ended {
-    /// What was asked for is done.
+    /// The command did what it was asked for.
     Done,
     /// It is done, and what was found in the sources makes the status 1.
     Found,

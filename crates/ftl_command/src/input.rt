@@ -65,7 +65,8 @@ pub(crate) fn read_input<'words, I: Source>(
     read_blocks(alloc, reader, block.as_mut_slice(), READS)
 }
 
-/// The same by blocks of this length, in at most `reads` calls of `read`.
+/// All that is left of the input, by blocks of this length. It fails after `reads` calls of `read`
+/// without an end.
 fn read_blocks<'words, I: Source>(
     alloc: Global,
     reader: &mut I,

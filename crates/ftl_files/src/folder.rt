@@ -42,7 +42,7 @@ pub enum ReplaceError {
     Unwritable,
 }
 
-/// What a name stands for.
+/// The sources that a name stands for.
 #[derive(Debug, Drop)]
 pub struct Listing {
     /// The sources below a folder, or the name alone, if it isn't a folder's.
