@@ -215,7 +215,8 @@ impl AttributeText<'_, '_> {
         Ok(Remark::warning("unknown-term-variant", text).with_hint(Some(hint)))
     }
 
-    /// What is meant, if a key is nearly it, and otherwise what the attribute is.
+    /// The hint for a key: that the attribute's text may be meant, if the key is nearly it, and
+    /// otherwise the text itself.
     fn hint(&self, alloc: Global, key: &str) -> Result<String, AllocError>
         ensures { IfOk result (by.IsTextHint self.now.text.now key.now) }
     {

@@ -99,7 +99,7 @@ fn character_of(spelled: Spelled) -> char
     char::from_u32(number).unwrap_or('\u{FFFD}')
 }
 
-/// What the characters at the front spell.
+/// The character that the characters at the front spell in a wrong encoding, by its bytes.
 fn spelled_at(text: &[u8]) -> Option<Spelled>
     ensures { option_map spelled_view result ≡ e.spelled_at text.now }
 {

@@ -333,7 +333,7 @@ fn is_same(script: Script, other: Script) -> bool
     )
 }
 
-/// That a letter stands in a word of another script.
+/// The remark that a letter is in a word of another script.
 fn letter_remark(alloc: Global, letter: Letter, other: Script) -> Result<Remark, AllocError>
     ensures { IfOk result (λ said. remark_view said ≡ s.letter_remark (letter_view letter) (script_view other)) }
 {

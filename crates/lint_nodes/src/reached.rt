@@ -1,4 +1,4 @@
-//! What references reach.
+//! The messages and variables that references reach.
 #![tactic(auto)]
 
 ghost use Rattle.std.specs.Prelude.{[], OnOk, option_map};

@@ -229,7 +229,7 @@ fn push_value<'a, 's, 't>(
     }
 }
 
-/// What follows the attribute of a reference, if it has one.
+/// The rest after the attribute of a reference, if it has one.
 fn after_attribute<'t>(attribute: &Option<Identifier<&str>>, text: &'t [u8]) -> &'t [u8]
     ensures { result.now ≡ rests.after_attribute (option_map name_of attribute.now) text.now }
 {
