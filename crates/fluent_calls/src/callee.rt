@@ -1,4 +1,4 @@
-//! What a call in a message calls.
+//! The function that a call in a message calls.
 
 /// A function among the ids of messages, but for `NUMBER`.
 #[derive(Clone, Copy, Debug)]
