@@ -3,7 +3,7 @@
 /// A function among the ids of messages, but for `NUMBER`.
 #[derive(Clone, Copy, Debug)]
 pub enum Callee {
-    /// One of the program's, by its place among their names.
+    /// A function of the program, by its index among their names.
     Program(usize),
     /// `DATETIME`.
     DateTime,

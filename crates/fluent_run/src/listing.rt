@@ -24,7 +24,7 @@ struct Listing<'s> {
 }
 
 impl<'s> Listing<'s> {
-    /// Nothing. It doesn't allocate.
+    /// A listing without ids. It doesn't allocate.
     fn new(alloc: Global) -> Self
         ensures text { string_bytes result.text ≡ [] }
         ensures seen { result.seen.keys ≡ [] }

@@ -52,7 +52,7 @@ pub struct Listing {
 }
 
 impl Listing {
-    /// Nothing.
+    /// A listing without sources and folders.
     pub fn new(alloc: Global) -> Listing
         ensures { listed_names result ≡ [] }
     {

@@ -35,7 +35,7 @@ pub struct ReadSources {
 }
 
 impl ReadSources {
-    /// Nothing yet.
+    /// The reading of no file.
     fn new(alloc: Global) -> ReadSources
         ensures { read_view result ≡ nothing_read }
     {

@@ -228,7 +228,7 @@ impl AttributeText<'_, '_> {
     }
 }
 
-/// One name.
+/// A name, as the only one that is known.
 #[derive(Clone, Copy)]
 struct OneName<'n> {
     name: &'n str,

@@ -1,4 +1,4 @@
-//! One escape.
+//! The escape at the front of a text.
 #![tactic(auto, using(fluent_tokens::proofs::Counted::cuts))]
 
 ghost use Rattle.std.specs.Prelude.{◌≡◌, ◌++◌, ◌<◌, true, option_map, length};

@@ -25,7 +25,7 @@ pub struct Reached<'s> {
 }
 
 impl<'s> Reached<'s> {
-    /// None. It doesn't allocate.
+    /// No messages and no variables. It doesn't allocate.
     pub fn new(alloc: Global) -> Self
         ensures { HasReached result [] [] }
     {
