@@ -61,7 +61,7 @@ pub(crate) fn gather_pattern<'b, 'r, 's, 'a, E: Context<DateTimeValue, Callee>, 
     Ok(found)
 }
 
-/// Puts the calls of a placeable into lines of `found`, and answers whether those after it are
+/// Puts the calls of a placeable into lines of `found`, and returns whether those after it are
 /// known, too.
 fn gather_placeable<'b, 'r, 's, 'a, E: Context<DateTimeValue, Callee>, K: Otherwise>(
     place: &Surroundings<'b, 'r, 's, 'a, DateTimeValue, Callee, E>,
@@ -108,7 +108,7 @@ fn pass<'b, 'r, 's, 'a, E: Context<DateTimeValue, Callee>>(
     write_opened(&mut text, place, progress, pattern, expression)
 }
 
-/// Counts a placeable, and answers whether it may be opened.
+/// Counts a placeable, and returns whether it may be opened.
 fn open_placeable(progress: &mut Progress<'_, '_>) -> Result<bool, AllocError>
     ensures value { IfOk result (λ is_open. is_open ≡ (opens (state progress.old).budget).value) }
     ensures budget { OnOk result ((state progress.new).budget

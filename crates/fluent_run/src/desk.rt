@@ -49,7 +49,7 @@ pub struct Desk<'b, 'r, 's, M, F = NoFunction> {
 }
 
 impl<'b, 'r, 's, M: MemoizerKind, F: Drop> Desk<'b, 'r, 's, M, F> {
-    /// Answers from resources by what ids stand for, within a budget of the machine's stack for
+    /// A desk that answers from resources by these ids, within a budget of the machine's stack for
     /// each answer.
     pub fn of(
         ids: FluentIds<'r, 's, F>,
@@ -162,8 +162,8 @@ impl<'b, 'r, 's, M: MemoizerKind, F: Drop> Desk<'b, 'r, 's, M, F> {
 }
 
 impl<'b, 'r, 's, M: MemoizerKind> Desk<'b, 'r, 's, M> {
-    /// Answers from resources, in their order, within a budget of the machine's stack for each
-    /// answer.
+    /// A desk that answers from resources, in their order, within a budget of the machine's stack
+    /// for each answer.
     ///
     /// # Errors
     /// [`AllocError`] if memory runs out; nothing is kept.

@@ -209,7 +209,7 @@ fn begins_with_capital(name: &str) -> bool
     matches!(name.as_bytes().first(), Some(b'A'..=b'Z'))
 }
 
-/// Whether a name has no byte that those of functions don't have.
+/// Whether each byte of a name is a capital letter, a digit, `-` or `_`.
 fn has_callee_bytes(name: &str) -> bool
     ensures { result ≡ list_all is_callee_byte name.now }
 {
@@ -225,7 +225,7 @@ fn report_format_in(found: &ArgMatches<'_>) -> Option<ReportFormat>
     Some(format_by(format, colours))
 }
 
-/// The format that is named, if there is such a one.
+/// The format that is named, if there is such a format.
 fn format_in(found: &ArgMatches<'_>) -> Option<ReportFormat>
     ensures { option_map format_view result ≡ format_in (found_rows found.now) }
 {
@@ -239,7 +239,7 @@ fn colours_in(found: &ArgMatches<'_>) -> Option<bool>
     colours_named(found.get_str("color")?)
 }
 
-/// Whether this choice asks for colours, if there is such a one.
+/// Whether this choice asks for colours, if there is such a choice.
 pub(crate) fn colours_named(name: &str) -> Option<bool>
     ensures { result ≡ colours_named name.now }
 {
@@ -260,7 +260,7 @@ fn format_by(format: ReportFormat, colours: bool) -> ReportFormat
     }
 }
 
-/// The format of a name.
+/// The format of this name, if there is one.
 pub(crate) fn format_named(name: &str) -> Option<ReportFormat>
     ensures { option_map format_view result ≡ format_named name.now }
 {

@@ -312,7 +312,7 @@ pub(crate) fn with_argument<'a>(
     command?.arg(argument)
 }
 
-/// Whether values are set off by no marks.
+/// Whether values have no isolation marks.
 fn not_isolating<'a>(alloc: Global) -> Arg<'a>
     ensures { IsLocal (flag_rule (codes "no-isolating")) result }
 {
@@ -374,14 +374,14 @@ pub(crate) fn flag<'a>(alloc: Global, name: &'a str) -> Arg<'a>
     Arg::new(alloc, name).long(name).action(ArgAction::SetTrue)
 }
 
-/// An option of this name with one value, which help calls so.
+/// An option of this name with one value, which help calls `value`.
 pub(crate) fn option<'a>(alloc: Global, name: &'a str, value: &'a str) -> Arg<'a>
     ensures { IsLocal (option_rule name.entry.now) result }
 {
     Arg::new(alloc, name).long(name).value_name(value)
 }
 
-/// An option of this name with one value, which it has if it isn't given, too.
+/// An option of this name with one value, which is `default` if the option isn't given.
 pub(crate) fn option_or<'a>(
     alloc: Global,
     name: &'a str,
@@ -393,7 +393,8 @@ pub(crate) fn option_or<'a>(
     option(alloc, name, value).default_value(default)
 }
 
-/// An option of this name that may come more than once, with one value each, which help calls so.
+/// An option of this name that may come more than once, with one value each, which help calls
+/// `value`.
 pub(crate) fn each<'a>(alloc: Global, name: &'a str, value: &'a str) -> Arg<'a>
     ensures { IsLocal (each_rule name.entry.now) result }
 {

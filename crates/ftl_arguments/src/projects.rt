@@ -137,7 +137,7 @@ pub(crate) fn status_in<'words>(
     })
 }
 
-/// The format of a table that is named, if there is such a one.
+/// The format of a table that is named, if there is such a format.
 fn table_format_in(found: &ArgMatches<'_>) -> Option<TableFormat>
     ensures { option_map table_format_view result ≡ table_format_in (found_rows found.now) }
 {

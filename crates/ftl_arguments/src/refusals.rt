@@ -167,7 +167,8 @@ fn refused_way<'words>(found: &ArgMatches<'words>) -> Option<Refused<'words>> {
     None
 }
 
-/// A code or the name of a function that there can't be, or counts of nothing.
+/// The refusal of an unknown code, of a function's name that messages can't call, or of counts
+/// without a reference.
 fn refused_name<'words>(found: &ArgMatches<'words>) -> Option<Refused<'words>> {
     if let Some(refused) = refused_code(found) {
         return Some(refused);
@@ -186,7 +187,7 @@ fn refused_name<'words>(found: &ArgMatches<'words>) -> Option<Refused<'words>> {
     None
 }
 
-/// A code that is to be explained, and that no finding has.
+/// The refusal of a code that is to be explained, if no finding has it.
 fn refused_explanation<'words>(found: &ArgMatches<'words>) -> Option<Refused<'words>> {
     let code = found.get_str("explain")?;
     if is_finding_code(code) {
@@ -199,7 +200,7 @@ fn refused_explanation<'words>(found: &ArgMatches<'words>) -> Option<Refused<'wo
     }
 }
 
-/// A code that no finding has, of those that are left out or selected.
+/// The refusal of the first code that is left out or selected and that no finding has.
 fn refused_code<'words>(found: &ArgMatches<'words>) -> Option<Refused<'words>> {
     if let Some(code) = unknown_code(found, "ignore") {
         return Some(Refused::Code {

@@ -173,7 +173,8 @@ fn slash_after(folder: &str) -> &'static str
     }
 }
 
-/// Whether it may be read to its end, as a pipe may not. A link may lead to a file.
+/// Whether a file of this type may be read to its end, as a pipe may not. A link may lead to a
+/// file.
 fn is_text_file(kind: FileType) -> bool
     ensures { IsTrue result ↔ (IsFile kind ⊎ IsSymlink kind) }
 {

@@ -45,7 +45,7 @@ impl fmt::Display for Sentence<'_> {
 }
 
 impl<'a> Sentence<'a> {
-    /// The sentence for an error of this kind in junk, where this text is.
+    /// The sentence for an error of this kind in junk. `at` is the text from the error on.
     pub fn new(kind: &'a ErrorKind, junk: &'a str, at: &'a str) -> Sentence<'a>
         ensures { sentence_text result ≡ syntax.sentence junk.now (refusal_by kind.now at.now) }
     {

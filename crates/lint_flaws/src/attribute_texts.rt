@@ -46,7 +46,7 @@ pub fn push_attribute_keys(
     }
 }
 
-/// Adds that of the attribute of this name of the term of this id.
+/// Adds what is said of the keys of a select on the attribute of this name of the term of this id.
 fn push_term_keys(
     alloc: Global,
     ids: &CatalogIds<'_, '_>,

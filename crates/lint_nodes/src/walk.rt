@@ -212,7 +212,8 @@ fn push_named<'a, 's, 't>(
     Ok(rest)
 }
 
-/// Of the value of a named argument: a literal belongs to the node of the call.
+/// Adds the occurrences in the value of a named argument. A literal belongs to the node of the
+/// call.
 #[cycle(walk)]
 fn push_value<'a, 's, 't>(
     value: &'a InlineExpression<&'s str>,
