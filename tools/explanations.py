@@ -20,8 +20,8 @@ WIDTH = 80
 UNSILENCED = {"syntax", "byte-order-mark"}
 # How many are in one table, since the checker reads a table in one piece.
 PART = 6
-HEAD = '''//! What each code of findings means: the sections of `docs/reference/codes.md`, as text for a
-//! screen. `tools/explanations.py` writes this file.
+HEAD = '''//! The explanation of each code of findings: its section of `docs/reference/codes.md`, as text for
+//! a screen. `tools/explanations.py` writes this file.
 ghost use Rattle.std.specs.Prelude.{◌≡◌, length};
 
 /// A code with its explanation.
@@ -33,7 +33,7 @@ pub(crate) fn text_of(code: &str) -> &'static str {
 %s        .unwrap_or("")
 }
 
-/// That in one of the tables.
+/// The text on a code in one of the tables.
 fn text_in(explanations: &'static [Explanation], code: &str) -> Option<&'static str> {
     for (known, text) in explanations {
         if *known == code {

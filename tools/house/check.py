@@ -8,7 +8,8 @@ another crate that the gate proves or tries, unless its fence is `no_run`: such 
 public type that programs use has a block. Each link leads to a file and a heading that are there, and so does each
 path in `crates` that a page names; each page that a comment names is there; no line of prose in a page is wider than
 120 columns; no page has words that docs/style.md leaves out, and no comment of the code, its definitions and its
-proofs has "behind" for "after"; no comment of code is wider than 100 columns; the README has at most 110 lines, 25
+proofs has "behind" for "after"; no doc comment begins with "The same" or "What", but in the crates that are named here;
+no comment of code is wider than 100 columns; the README has at most 110 lines, 25
 links and 15 words a sentence, and no cell of the pages on what is proved more than 40; each time, size and count in
 thousands that a page says, unless it is a bound, has a call that shows it, or a link to a page with the calls, in its
 paragraph; a release has each page that its readers are led to; each call in a shell block of a page prints what follows
@@ -156,6 +157,15 @@ COMMENTED = {
     'bindings/rust/src/**/*.rs': r'//[/!]?',
     'examples/rust/*.rs': r'//[/!]?',
 }
+# How no doc comment begins: only the one before it explains it, or its subject is none. Crates that have such comments yet
+# are below many others: a change of a comment would have all of these proved anew.
+BEGINNING = re.compile(r'\s*//[/!] (The same|What)\b')
+NOT_YET_CLEAN = '''
+    fluent_answers fluent_ast fluent_bundle fluent_c fluent_check fluent_date_tables fluent_dates fluent_errors fluent_grammar
+    fluent_ids fluent_kept fluent_languages fluent_lint fluent_meaning fluent_number fluent_numerals fluent_parsed fluent_parser
+    fluent_plurals fluent_progress fluent_project fluent_resolver fluent_serializer fluent_serve fluent_text fluent_tidy
+    fluent_tidy_laws fluent_tokens fluent_value ftl_project lint_comparison lint_markup lint_texts
+'''.split()
 # Where "behind" doesn't mean "after".
 GOOD_BEHIND = re.compile(r'\b(?:left|leaves?|far|call)\b[^.;]*?\bbehind\b')
 # Where the version is named. The first match counts: in the changelog that is the topmost release. What only some checkouts
@@ -384,6 +394,18 @@ def wrong_comments():
                     yield f'{place_of(path, number)}: the style leaves out "behind"'
                 if path.suffix == '.rs' and re.match(r'\s*//[/!] The same\b', line):
                     yield f'{place_of(path, number)}: a doc comment that begins with "The same" can\'t be read alone'
+
+
+def wrong_beginnings():
+    for path in SOURCES:
+        if PRIVATE.search(crate_of(path)) or crate_of(path) in NOT_YET_CLEAN:
+            continue
+        before = ''
+        for number, line in enumerate(path.read_text().split('\n'), 1):
+            begins = BEGINNING.match(line)
+            if begins and not re.match(r'\s*//[/!] \S', before):
+                yield f'{place_of(path, number)}: a doc comment that begins with "{begins[1]}"'
+            before = line
 
 
 def wide_comments():
@@ -670,7 +692,7 @@ def checks():
     """The checks that are asked for."""
     if not ARGUMENTS.calls:
         yield from (wrong_quotes, types_without_examples, wrong_links, pages_without_release, wide_prose, long_readme, long_cells, figures_without_source, wrong_words,
-                    wrong_comments, wide_comments,
+                    wrong_comments, wrong_beginnings, wide_comments,
                     silent_calls, long_clauses, other_versions, other_codes, other_cldr, other_readers, other_interfaces,
                     other_functions, stale_edits, locked_scripts, wrong_counts, wrong_lines, wrong_figures, unknown_tests, wrong_rows)
     if ARGUMENTS.sources:

@@ -29,7 +29,8 @@ pub(crate) fn call_text(
     call_value(alloc, name, positional, named)?.to_string(alloc)
 }
 
-/// The same as a value of JSON.
+/// The call of a function of this name as a value of JSON: an array with the name, the positional
+/// arguments, and an object of the named ones.
 fn call_value(
     alloc: Global,
     name: &str,

@@ -10,10 +10,10 @@ use fluent_resource::FluentResource;
 use fluent_run::ids_of;
 use std::alloc::{AllocError, Global};
 
-/// What the ids of resources stand for, then the names of functions, each of which is its place
-/// among the names, and then `DATETIME`. First comes `NUMBER`, and then the messages and terms of
-/// the resources, in their order. Of an id the first entry counts, or the last with `overriding`; a
-/// function counts only if its name stands for nothing.
+/// The ids of resources, with what they stand for, then the names of functions, each of which is
+/// its place among the names, and then `DATETIME`. First comes `NUMBER`, and then the messages and
+/// terms of the resources, in their order. Of an id the first entry counts, or the last with
+/// `overriding`; a function counts only if its name stands for nothing.
 ///
 /// # Errors
 /// [`AllocError`] if memory runs out; nothing is kept.

@@ -21,7 +21,7 @@ use std::alloc::{AllocError, Global};
 use std::cell::Cell;
 use std::marker::PhantomData;
 
-/// What formatting a message that may call functions comes to.
+/// The outcome of formatting a message that may call functions.
 #[derive(Debug, Drop)]
 pub enum Outcome {
     /// The text: each call that it met has an answer.
@@ -33,8 +33,8 @@ pub enum Outcome {
     Call(String),
 }
 
-/// What formats messages that may call functions: a desk in which a function of the program is its
-/// place among the functions' names. `DATETIME` is there beside them.
+/// An engine that formats messages that may call functions: a desk in which a function of the
+/// program is its place among the functions' names. `DATETIME` is there, too.
 #[derive(Drop)]
 pub struct FunctionDesk<'b, 'r, 's, M> {
     /// The messages and terms, and the functions among their ids.
@@ -71,11 +71,11 @@ impl<'b, 'r, 's, M: MemoizerKind> FunctionDesk<'b, 'r, 's, M> {
         })
     }
 
-    /// What a message comes to for these arguments, with these answers by the calls' texts: its
+    /// Formats a message with these arguments, and with these answers by the calls' texts: its
     /// value, or its first attribute of a name. `None` if there is no such message, value or
-    /// attribute. It is written into the memory of `text`, whose old bytes are lost.
+    /// attribute. The text is written into the memory of `text`, whose old bytes are lost.
     ///
-    /// If it is a text, it is what the message gives if functions give these answers, and to other
+    /// A text is the one that the message has if functions return these answers, and for other
     /// calls what `K` says, whatever that is.
     ///
     /// # Errors
@@ -130,9 +130,9 @@ impl<'b, 'r, 's, M: MemoizerKind> FunctionDesk<'b, 'r, 's, M> {
         }
     }
 
-    /// What a message gives for these arguments, if it meets no call of a function of the program:
+    /// Formats a message with these arguments, if it meets no call of a function of the program:
     /// its value, or its first attribute of a name. `None` if there is no such message, value or
-    /// attribute. It is written into the memory of `text`, whose old bytes are lost.
+    /// attribute. The text is written into the memory of `text`, whose old bytes are lost.
     ///
     /// # Errors
     /// Those of [`format`](Self::format), and [`AllocError`] if it meets such a call.
@@ -154,8 +154,8 @@ impl<'b, 'r, 's, M: MemoizerKind> FunctionDesk<'b, 'r, 's, M> {
         Ok(Some(self.write::<K, FluentArgs<'_, DateTimeValue>>(alloc, pattern, arguments, text)?))
     }
 
-    /// What a pattern gives for these arguments, if it meets no call of a function of the program.
-    /// It is written into the memory of `text`, whose old bytes are lost.
+    /// Formats a pattern with these arguments, if it meets no call of a function of the program.
+    /// The text is written into the memory of `text`, whose old bytes are lost.
     ///
     /// # Errors
     /// Those of [`format`](Self::format), and [`AllocError`] if it meets such a call.
@@ -176,7 +176,7 @@ impl<'b, 'r, 's, M: MemoizerKind> FunctionDesk<'b, 'r, 's, M> {
         }
     }
 
-    /// Those of a pattern.
+    /// A line for each call that is gathered of a pattern with these arguments and answers.
     fn calls_of<'x, K: Otherwise>(
         &'x self,
         alloc: Global,
@@ -212,7 +212,7 @@ impl<'b, 'r, 's, M: MemoizerKind> FunctionDesk<'b, 'r, 's, M> {
         gather_pattern(&place, &calls, pattern, self.desk.stack)
     }
 
-    /// What a pattern comes to for these arguments, with these answers.
+    /// The outcome of formatting a pattern with these arguments and these answers.
     fn outcome_of<'x, K: Otherwise, A: Lookup<DateTimeValue>>(
         &'x self,
         alloc: Global,

@@ -1,7 +1,7 @@
 //! The calls of a pattern that have no answer, as far as they are known before one is given.
 //!
-//! Those of plain placeables are gathered from the tree. What stands between is resolved as always,
-//! which ends at a call that has no answer.
+//! Calls in plain placeables are gathered from the tree. The text between them is resolved as
+//! always, which ends at a call that has no answer.
 
 ghost use Rattle.fluent_ast.specs.Borrowed.{inline_of, name_of, named_of};
 ghost use Rattle.fluent_calls.specs.CallValues.{plain};
@@ -61,7 +61,7 @@ pub(crate) fn gather_pattern<'b, 'r, 's, 'a, E: Context<DateTimeValue, Callee>, 
     Ok(found)
 }
 
-/// Puts the calls of a placeable into lines of `found`, and answers whether those after it are
+/// Puts the calls of a placeable into lines of `found`, and returns whether those after it are
 /// known, too.
 fn gather_placeable<'b, 'r, 's, 'a, E: Context<DateTimeValue, Callee>, K: Otherwise>(
     place: &Surroundings<'b, 'r, 's, 'a, DateTimeValue, Callee, E>,
@@ -108,7 +108,7 @@ fn pass<'b, 'r, 's, 'a, E: Context<DateTimeValue, Callee>>(
     write_opened(&mut text, place, progress, pattern, expression)
 }
 
-/// Counts a placeable, and answers whether it may be opened.
+/// Counts a placeable, and returns whether it may be opened.
 fn open_placeable(progress: &mut Progress<'_, '_>) -> Result<bool, AllocError>
     ensures value { IfOk result (λ is_open. is_open ≡ (opens (state progress.old).budget).value) }
     ensures budget { OnOk result ((state progress.new).budget
@@ -250,8 +250,8 @@ fn literal<'s>(
     }
 }
 
-/// What a call with these values gives. If it is one of a function of the program that has no
-/// answer, it is put into a line of `found`.
+/// The value of a call with these values. `None` if the call is of a function of the program and
+/// has no answer: then it is put into a line of `found`.
 fn call_value<'b, 'r, 's, 'a, E: Context<DateTimeValue, Callee>>(
     place: &Surroundings<'b, 'r, 's, 'a, DateTimeValue, Callee, E>,
     answers: &FluentArgs<'_, DateTimeValue>,

@@ -1,15 +1,15 @@
-//! What functions give to calls that have no answer.
+//! The values that functions return for calls that have no answer.
 
 ghost use Rattle.std.specs.Prelude.{List, ℕ};
 ghost use Rattle.fluent_calls.specs.Functions.{Functions, unknown_answer};
 
-/// What functions give to calls that have no answer yet. It is only a definition: no program calls
-/// it. What holds for each type of this trait holds whatever the functions give.
+/// The values that functions return for calls that have no answer yet: a definition that no program
+/// calls. What holds for each type of this trait holds whatever the functions return.
 pub trait Otherwise {
     ghost otherwise: { Functions };
 }
 
-/// What calls give that have no answer isn't known. For a caller that can't be generic.
+/// An unknown value for each call that has no answer. For a caller that can't be generic.
 #[derive(Clone, Copy, Debug)]
 pub struct Unanswered;
 

@@ -71,7 +71,7 @@ pub fn run_before_exit<M: MemoizerKind, R: Source, W: Sink>(
     run_within(alloc, sources, settings, plurals, reader, writer, means)
 }
 
-/// What a run takes of the machine, and whether it gives it back.
+/// The means of the machine that a run takes, and whether it gives them back.
 #[derive(Clone, Copy)]
 pub(crate) struct Means {
     /// The budget of the machine's stack, for each message and term that is read, and for each
@@ -82,7 +82,7 @@ pub(crate) struct Means {
 }
 
 impl Means {
-    /// Those of a program.
+    /// The means of a program.
     fn of_program(exits: bool) -> Means
         ensures stack { result.stack.bytes ≡ program_stack }
         ensures exits { result.exits ≡ exits }

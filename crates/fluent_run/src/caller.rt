@@ -1,4 +1,4 @@
-//! What calls the functions of messages, and what patterns are resolved in with it.
+//! Callers of the functions of messages, and the context in which patterns are resolved with them.
 
 ghost use Rattle.std.specs.Prelude.{[], false, IfOk, is_some, List};
 ghost use Rattle.std.proofs.Common.{refl};
@@ -21,14 +21,14 @@ use fluent_value::{
 use std::alloc::{AllocError, Global};
 use std::borrow::CowStr;
 
-/// What calls the functions of messages, each of which is an `F` among the ids of a desk. Values of
-/// the program's own are of the type `C`.
+/// A caller of the functions of messages, each of which is an `F` among the ids of a desk. Custom
+/// values are of the type `C`.
 pub trait Caller<C: FluentType, F> {
-    /// What a function gives for positional values and named arguments.
+    /// The value that a function returns for positional values and named arguments.
     ghost gives: { Self → F → List (Value C.Meaning) → List (Text × Value C.Meaning)
         → Value C.Meaning };
 
-    /// What a function gives for these arguments.
+    /// The value that a function returns for these arguments.
     ///
     /// # Errors
     /// [`AllocError`] if memory runs out, or to end resolving; nothing is kept.
@@ -42,7 +42,7 @@ pub trait Caller<C: FluentType, F> {
         ensures { IfOk result (IsCallResult C.meaning (gives self.now function.now) positional.now named.now) };
 }
 
-/// What calls functions if there are none but `NUMBER`.
+/// A caller for messages without functions but `NUMBER`.
 pub(crate) struct NoCaller;
 
 impl Caller<NoCustom, NoFunction> for NoCaller {
@@ -59,14 +59,14 @@ impl Caller<NoCustom, NoFunction> for NoCaller {
     }
 }
 
-/// What patterns of a desk are resolved in but for their messages and terms.
+/// The context in which patterns of a desk are resolved, but for their messages and terms.
 #[derive(Drop)]
 pub struct Asking<'x, 'b, 'r, 's, M, F, L> {
     /// The desk.
     pub desk: &'x Desk<'b, 'r, 's, M, F>,
-    /// What calls functions.
+    /// The caller of functions.
     pub caller: &'x L,
-    /// What texts are made with.
+    /// The allocator of texts.
     pub alloc: Global,
 }
 

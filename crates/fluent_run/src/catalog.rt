@@ -9,8 +9,9 @@ use fluent_ids::FluentIds;
 use fluent_resource::FluentResource;
 use std::alloc::{AllocError, Global};
 
-/// What the ids of resources stand for: first comes `NUMBER`, and then the messages and terms of
-/// the resources, in their order. Of an id the first entry counts, or the last with `overriding`.
+/// The ids of resources, with what they stand for: first comes `NUMBER`, and then the messages and
+/// terms of the resources, in their order. Of an id the first entry counts, or the last with
+/// `overriding`.
 ///
 /// # Errors
 /// [`AllocError`] if memory runs out; nothing is kept.

@@ -1,4 +1,4 @@
-//! What messages give with dates among their arguments.
+//! Formatting of messages with dates among their arguments.
 
 ghost use Rattle.std.specs.Prelude.{◌≡◌, [], IfOk, false, true, option_map};
 ghost use Rattle.std.proofs.Common.{refl};
@@ -27,7 +27,7 @@ use fluent_value::{FluentArgs, FluentValue, MemoizerKind, ValueFormatter, ValueS
 use std::alloc::{AllocError, Global};
 use std::borrow::CowStr;
 
-/// What calls functions if there are none but `NUMBER` and `DATETIME`.
+/// A caller for messages without functions but `NUMBER` and `DATETIME`.
 pub struct DateTimeCaller;
 
 impl Caller<DateTimeValue, DateTimeFunction> for DateTimeCaller {
@@ -44,7 +44,7 @@ impl Caller<DateTimeValue, DateTimeFunction> for DateTimeCaller {
     }
 }
 
-/// What messages with dates are resolved in but for their messages and terms.
+/// The context in which messages with dates are resolved, but for their messages and terms.
 ///
 /// ```no_run
 /// let dating = Dating {
@@ -65,11 +65,11 @@ pub struct Dating<'p, 'x, M, L> {
     pub dates: Option<LocaleDates>,
     /// The plural source.
     pub plurals: &'p M,
-    /// What calls functions.
+    /// The caller of functions.
     pub caller: &'x L,
     /// How much of the machine's stack an answer may take.
     pub stack: StackBudget,
-    /// What texts are made with.
+    /// The allocator of texts.
     pub alloc: Global,
 }
 
@@ -211,7 +211,7 @@ impl<'p, 'x, M, L> Dating<'p, 'x, M, L> {
 }
 
 impl<'p, 'x, M: MemoizerKind> Dating<'p, 'x, M, DateTimeCaller> {
-    /// What a message of sources gives for these arguments: its value, or its first attribute of a
+    /// Formats a message of sources with these arguments: its value, or its first attribute of a
     /// name. `None` if there is no such message, value or attribute.
     ///
     /// Each message and term that is read, and the answer, may take the budget of the machine's
@@ -247,7 +247,7 @@ impl<'p, 'x, M: MemoizerKind> Dating<'p, 'x, M, DateTimeCaller> {
     }
 }
 
-/// What the ids of resources stand for, and `DATETIME` after them.
+/// The ids of resources, with what they stand for, and `DATETIME` after them.
 ///
 /// # Errors
 /// [`AllocError`] if memory runs out; nothing is kept.

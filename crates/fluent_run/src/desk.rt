@@ -30,7 +30,7 @@ use fluent_text::stack::StackBudget;
 use fluent_value::{FluentArgs, MemoizerKind, NoCustom, NoFunction};
 use std::alloc::{AllocError, Global};
 
-/// What messages are formatted from: resources and their ids, the plural source, the settings, and
+/// An engine that formats messages: resources and their ids, the plural source, the settings, and
 /// how much of the machine's stack an answer may take. Functions are values of the type `F` among
 /// the ids.
 ///
@@ -38,7 +38,7 @@ use std::alloc::{AllocError, Global};
 #[derive(Drop)]
 pub struct Desk<'b, 'r, 's, M, F = NoFunction> {
     resources: &'r [FluentResource<'s>],
-    /// What ids stand for.
+    /// The ids, with what they stand for.
     pub ids: FluentIds<'r, 's, F>,
     /// The plural source.
     pub plurals: &'b M,
@@ -49,7 +49,7 @@ pub struct Desk<'b, 'r, 's, M, F = NoFunction> {
 }
 
 impl<'b, 'r, 's, M: MemoizerKind, F: Drop> Desk<'b, 'r, 's, M, F> {
-    /// Answers from resources by what ids stand for, within a budget of the machine's stack for
+    /// A desk that answers from resources by these ids, within a budget of the machine's stack for
     /// each answer.
     pub fn of(
         ids: FluentIds<'r, 's, F>,
@@ -96,7 +96,7 @@ impl<'b, 'r, 's, M: MemoizerKind, F: Drop> Desk<'b, 'r, 's, M, F> {
         self.pattern_named(id, attribute).is_some()
     }
 
-    /// What the ids of its messages, terms and functions stand for.
+    /// The ids of its messages, terms and functions, with what they stand for.
     pub fn ids(&self) -> &FluentIds<'r, 's, F>
         ensures { plain_ids result.now ≡ desk_ids self.now }
     {
@@ -128,8 +128,8 @@ impl<'b, 'r, 's, M: MemoizerKind, F: Drop> Desk<'b, 'r, 's, M, F> {
         Ok(Some(name_lines(alloc, &message)?))
     }
 
-    /// What a pattern gives for these arguments, with what calls its functions. It is written into
-    /// the memory of `text`, whose old bytes are lost.
+    /// Formats a pattern with these arguments and a caller of its functions. The text is written
+    /// into the memory of `text`, whose old bytes are lost.
     ///
     /// # Errors
     /// [`AllocError`] if memory runs out, if the pattern nests too deep for the desk's budget of
@@ -162,8 +162,8 @@ impl<'b, 'r, 's, M: MemoizerKind, F: Drop> Desk<'b, 'r, 's, M, F> {
 }
 
 impl<'b, 'r, 's, M: MemoizerKind> Desk<'b, 'r, 's, M> {
-    /// Answers from resources, in their order, within a budget of the machine's stack for each
-    /// answer.
+    /// A desk that answers from resources, in their order, within a budget of the machine's stack
+    /// for each answer.
     ///
     /// # Errors
     /// [`AllocError`] if memory runs out; nothing is kept.
@@ -180,8 +180,8 @@ impl<'b, 'r, 's, M: MemoizerKind> Desk<'b, 'r, 's, M> {
         Ok(Desk::of(ids, resources, settings, plurals, stack))
     }
 
-    /// What a message gives for these arguments: its value, or its first attribute of a name.
-    /// `None` if there is no such message, value or attribute.
+    /// Formats a message with these arguments: its value, or its first attribute of a name. `None`
+    /// if there is no such message, value or attribute.
     ///
     /// ```no_run
     /// let desk = Desk::new(alloc, resources, settings, &plurals, StackBudget::PROGRAM)?;
@@ -206,8 +206,8 @@ impl<'b, 'r, 's, M: MemoizerKind> Desk<'b, 'r, 's, M> {
         self.format_into(alloc, id, attribute, arguments, String::new(alloc))
     }
 
-    /// The same as [`Desk::format`], with a text that is written into the memory of `text`, whose
-    /// old bytes are lost.
+    /// Formats a message as [`Desk::format`] does, into the memory of `text`, whose old bytes are
+    /// lost.
     ///
     /// # Errors
     /// Those of [`Desk::format`].
@@ -227,8 +227,8 @@ impl<'b, 'r, 's, M: MemoizerKind> Desk<'b, 'r, 's, M> {
         Ok(Some(self.reply_to(alloc, pattern, arguments, text)?))
     }
 
-    /// What a pattern gives for these arguments. It is written into the memory of `text`, whose old
-    /// bytes are lost.
+    /// Formats a pattern with these arguments. The text is written into the memory of `text`, whose
+    /// old bytes are lost.
     fn reply_to(
         &self,
         alloc: Global,

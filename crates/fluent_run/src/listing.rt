@@ -1,5 +1,4 @@
-//! What resources have, in lines: the ids of their messages, and the names of a message's
-//! attributes.
+//! The ids of the messages of resources, and the names of a message's attributes, in lines.
 
 ghost use Rattle.std.specs.Prelude.{◌≡◌, ◌++◌, [], IfOk, OnOk, string_bytes};
 ghost use Rattle.fluent_ids.specs.MessageView.{message_of};
@@ -25,7 +24,7 @@ struct Listing<'s> {
 }
 
 impl<'s> Listing<'s> {
-    /// Nothing. It doesn't allocate.
+    /// A listing without ids. It doesn't allocate.
     fn new(alloc: Global) -> Self
         ensures text { string_bytes result.text ≡ [] }
         ensures seen { result.seen.keys ≡ [] }

@@ -37,7 +37,7 @@ const ROOM: usize = 128;
 pub struct Reply {
     /// The text, which is there in spite of the errors.
     pub text: String,
-    /// What came up.
+    /// The errors that came up.
     pub errors: Vec<FluentError>,
 }
 
@@ -56,7 +56,7 @@ impl fmt::Display for ErrorLine<'_> {
     }
 }
 
-/// What a pattern gives, within a budget of the machine's stack. It is written into the memory of
+/// Formats a pattern within a budget of the machine's stack. The text is written into the memory of
 /// `text`, whose old bytes are lost.
 ///
 /// # Errors

@@ -68,7 +68,7 @@ fn push_message<'s, 't>(
     push_attributes(owner, &message.attributes, skip_blank_block(rest), found)
 }
 
-/// The text is the source from the term's minus on.
+/// Adds the occurrences in a term. The text is the source from its minus on.
 fn push_term<'s, 't>(
     term: &Term<&'s str>,
     text: &'t [u8],

@@ -125,7 +125,8 @@ fn push_message<'t>(
     Ok(attributes.rest)
 }
 
-/// The text is the source from the comment above the term on, or from its minus.
+/// Adds the nodes of a term. The text is the source from the comment above it on, or from its
+/// minus.
 fn push_term<'t>(
     term: &Term<&str>,
     text: &'t [u8],

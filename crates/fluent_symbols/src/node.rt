@@ -7,7 +7,7 @@ ghost use Rattle.fluent_symbols.specs.Node.{named, node as plain_node};
 use lint_nodes::words::after_name;
 use std::alloc::AllocError;
 
-/// What a node is.
+/// The kind of a node.
 #[derive(Clone, Copy)]
 pub enum NodeKind {
     Message,

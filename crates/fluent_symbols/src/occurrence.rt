@@ -6,7 +6,7 @@ ghost use Rattle.fluent_symbols.specs.OccurrenceView.{AddsOne, label};
 use std::alloc::AllocError;
 use std::fmt;
 
-/// What a name stands for.
+/// The kind of a symbol, which is what a name stands for.
 #[derive(Clone, Copy)]
 pub enum SymbolKind {
     Message,

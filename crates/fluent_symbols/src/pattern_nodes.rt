@@ -74,7 +74,7 @@ pub fn push_pattern<'t>(
     push_ended(NodeKind::Pattern, start, ended, found)
 }
 
-/// From the brace on.
+/// Adds the nodes of a placeable, from its brace on.
 #[cycle(nodes)]
 fn push_placeable<'t>(
     part: &Expression<&str>,
@@ -316,7 +316,7 @@ fn push_term_reference<'t>(
     push_ended(NodeKind::TermReference, text, called, found)
 }
 
-/// Of the call of a term that is named before this place, if there are arguments.
+/// Adds the nodes of the call of a term that is named before this place, if there are arguments.
 #[cycle(nodes)]
 fn push_call<'t>(
     call: &Option<CallArguments<&str>>,
@@ -337,7 +337,7 @@ fn push_call<'t>(
     }
 }
 
-/// From the parenthesis on.
+/// Adds the nodes of the arguments of a call, from their parenthesis on.
 #[cycle(nodes)]
 fn push_arguments<'t>(
     call: &CallArguments<&str>,

@@ -14,7 +14,7 @@ pub fn line_end(text: &[u8]) -> &[u8]
     skip(text, words::line_len(text))
 }
 
-/// What follows the line at the front.
+/// The rest after the line at the front, with its line end.
 pub fn next_line(text: &[u8]) -> &[u8]
     ensures { result.now ≡ place.next_line text.now }
 {

@@ -40,7 +40,7 @@ pub fn occurrence_lines(
     }
 }
 
-/// The same, by what was read of the source.
+/// The lines of the occurrences of a source, by the tree and the errors that were read of it.
 fn lines_of_read<'s>(
     alloc: Global,
     source: &'s str,

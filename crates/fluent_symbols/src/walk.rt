@@ -133,7 +133,7 @@ fn push_inline<'s, 't>(
     }
 }
 
-/// Of the call of a term, if there are arguments.
+/// Adds the occurrences in the call of a term, if there are arguments.
 #[cycle(walk)]
 fn push_call<'s, 't>(
     owner: Owner<'s>,
@@ -152,7 +152,7 @@ fn push_call<'s, 't>(
     }
 }
 
-/// Of the arguments of a term, or of a function.
+/// Adds the occurrences in the arguments of a term, or of a function.
 #[cycle(walk)]
 fn push_arguments<'s, 't>(
     owner: Owner<'s>,

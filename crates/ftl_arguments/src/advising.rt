@@ -1,4 +1,4 @@
-//! What is wrong with command-line arguments, in words.
+//! The line that says what is wrong with command-line arguments.
 
 use crate::elsewhere::meant_by;
 use crate::refusals::Refused;
@@ -90,7 +90,7 @@ fn push_words(reason: &mut String, paragraph: &str) -> Result<(), AllocError> {
     Ok(())
 }
 
-/// The names of what is near, in quotes, in the tip of an error.
+/// The similar names in the tip of an error, in quotes.
 fn near(tip: &str) -> Option<&str> {
     let (_, names) = tip
         .split_once("exists: ")
@@ -98,7 +98,8 @@ fn near(tip: &str) -> Option<&str> {
     names.lines().next()
 }
 
-/// The command that the first argument names, with what is before it, if it names one.
+/// The command that the first argument names, with a space before it. Both are empty if it names
+/// none.
 fn command_named<'words>(words: &[&'words str]) -> (&'static str, &'words str) {
     let Some(&name) = words.first() else {
         return ("", "");

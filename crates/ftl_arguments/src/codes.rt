@@ -121,8 +121,7 @@ pub(crate) fn code_list<'words>(
     value.split(',').collect(alloc)
 }
 
-/// Appends the codes that aren't among those that are selected, if any are, or else those of the
-/// notes on texts.
+/// Appends the codes that aren't selected, if any are, and otherwise those of the notes on texts.
 fn push_unselected<'words>(
     ignored: &mut Vec<&'words str>,
     selected: &[&str],
@@ -152,14 +151,14 @@ pub(crate) fn all_codes() -> &'static [&'static str]
     &CODES
 }
 
-/// Whether there is one at least.
+/// Whether there is at least one value.
 pub(crate) fn is_any(values: &[&str]) -> bool
     ensures { result ≡ is_any (texts values.now) }
 {
     matches!(values, [_, ..])
 }
 
-/// Appends those of these codes that aren't among those that are selected.
+/// Appends the codes, of all, that aren't selected.
 fn push_others<'words>(
     left: &mut Vec<&'words str>,
     selected: &[&str],

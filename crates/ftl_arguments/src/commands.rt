@@ -1,8 +1,8 @@
-//! What the program can be asked for.
+//! The commands that the program can be asked for, with their options.
 
 use lint_report::Format as ReportFormat;
 
-/// What the command-line arguments ask for.
+/// The command that the command-line arguments name, or the text that they ask for.
 #[derive(Drop)]
 pub enum Invocation<'words> {
     /// A command of the program.
@@ -11,7 +11,7 @@ pub enum Invocation<'words> {
     Help(String),
     /// The version, which is this line.
     Version(String),
-    /// What findings of a code mean, which is this text.
+    /// The explanation of a code of findings, which is this text.
     Explanation(&'static str),
 }
 

@@ -1,6 +1,6 @@
-//! What other programs call options and commands that `ftl` calls otherwise.
+//! Options and commands that have other names in other programs than in `ftl`.
 
-/// What another program calls something, and what may be meant by that.
+/// A name that other programs use, and a hint at the name in `ftl`.
 type Meant = (&'static str, &'static str);
 
 /// Commands.
@@ -70,8 +70,8 @@ static OF_TIDY: [Meant; 12] = [
     ("--stdin", "'-' in the place of files is standard input;"),
 ];
 
-/// What may be meant by a word that a command doesn't know, in words that a pointer to the help may
-/// follow. Without a command it is a command's name.
+/// The hint for a word that a command doesn't know, if a table has the word. A pointer to the help
+/// may follow it. If `command` is empty, the word is in the place of a command.
 pub(crate) fn meant_by(command: &str, word: &str) -> Option<&'static str> {
     match command {
         "" => meant_in(&COMMANDS, word),
@@ -82,7 +82,7 @@ pub(crate) fn meant_by(command: &str, word: &str) -> Option<&'static str> {
     }
 }
 
-/// What one of the tables says of a word.
+/// The hint of one of the tables for a word.
 fn meant_in(table: &'static [Meant], word: &str) -> Option<&'static str> {
     for (other, meant) in table {
         if *other == word {

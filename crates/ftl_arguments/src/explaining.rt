@@ -1,4 +1,4 @@
-//! What `lint --explain` shows.
+//! The texts that `lint --explain` shows.
 ghost use Rattle.std.specs.Prelude.{◌≡◌, codes, is_some, option_map};
 ghost use Rattle.clap.specs.Words.{first_of};
 ghost use Rattle.ftl_arguments.specs.CommandView.{explained, explained_with, found_rows};
@@ -18,7 +18,7 @@ pub(crate) fn explanation(matches: &ArgMatches<'_>) -> Option<&'static str>
     }
 }
 
-/// That of a command of this name, with what was found for it.
+/// The explanation that a command of this name asks for, by what was found for it.
 fn explanation_by(name: &str, found: &ArgMatches<'_>) -> Option<&'static str>
     ensures { is_some result ≡ is_some (explained_with name.now found.now) }
 {
@@ -28,7 +28,7 @@ fn explanation_by(name: &str, found: &ArgMatches<'_>) -> Option<&'static str>
     }
 }
 
-/// That of the code that was found for `lint`.
+/// The explanation of the code that was found for `lint`.
 fn explanation_in(found: &ArgMatches<'_>) -> Option<&'static str>
     ensures { is_some result ≡ is_some (explained_in (found_rows found.now)) }
 {
@@ -38,7 +38,7 @@ fn explanation_in(found: &ArgMatches<'_>) -> Option<&'static str>
     }
 }
 
-/// That of a code, if findings have it.
+/// The explanation of a code, if findings have it.
 fn explanation_of(code: &str) -> Option<&'static str>
     ensures { is_some result ≡ is_finding_code code.now }
 {
@@ -49,7 +49,7 @@ fn explanation_of(code: &str) -> Option<&'static str>
     }
 }
 
-/// What is to be explained, a code or anything else.
+/// The word that is to be explained, which may be no code.
 fn named_in<'words>(found: &ArgMatches<'words>) -> Option<&'words str>
     ensures { option_map (λ name. name.now) result
         ≡ first_of (codes "explain") (found_rows found.now) }

@@ -1,4 +1,4 @@
-//! What `format` is asked for.
+//! The command `format`, from what `clap` found for it.
 ghost use Rattle.std.specs.Prelude.{◌≡◌, IfOk, Some, None, option_map};
 ghost use Rattle.fluent_serve.specs.Requests.{argument_of, arguments_of};
 ghost use Rattle.fluent_serve.specs.Text.{cut_at, dot, equals};
@@ -12,7 +12,7 @@ use clap::ArgMatches;
 use fluent_serve::cut::cut;
 use std::alloc::{AllocError, Global};
 
-/// What was found for `format`.
+/// Reads what was found for `format`.
 ///
 /// # Errors
 /// [`WordsError::Bad`]: an argument has no equals sign. [`WordsError::Memory`]: memory ran out.
@@ -61,7 +61,7 @@ fn arguments_in<'words>(
     read_arguments(alloc, found.get_raw("argument").unwrap_or(&[]))
 }
 
-/// The arguments that the words are. `None` if one is none.
+/// The arguments in words. `None` if a word is no argument.
 pub(crate) fn read_arguments<'words>(
     alloc: Global,
     words: &[&'words str],
@@ -79,7 +79,7 @@ pub(crate) fn read_arguments<'words>(
     Ok(Some(arguments))
 }
 
-/// The argument that a word is: its name ends at its first equals sign.
+/// The argument in a word: its name ends at the first equals sign.
 fn read_argument(word: &str) -> Option<(&str, &str)>
     ensures { option_map argument_view result ≡ argument_of (λ s. s) (cut_at equals word.now) }
 {

@@ -1,4 +1,4 @@
-//! What `lint` is asked for.
+//! The command `lint`, from what `clap` found for it.
 ghost use Rattle.std.specs.Prelude.{◌≡◌, ◌||◌, ◌++◌, ◌∷◌, [], IfErr, IfOk, Some, None, codes, false, not, option_map, true};
 ghost use Rattle.std.specs.List.{list_all};
 ghost use Rattle.ftl_arguments.specs.Linting.{colours_in, colours_named, format_by, format_in, format_named, lint_in, report_format_in};
@@ -90,7 +90,7 @@ pub(crate) const CODES: [&str; 66] = [
     "unused-ignore",
 ];
 
-/// What was found for `lint`.
+/// Reads what was found for `lint`.
 ///
 /// # Errors
 /// [`WordsError::Bad`]: an explanation is asked for; there is no such format or choice of colours;
@@ -240,7 +240,7 @@ fn begins_with_capital(name: &str) -> bool
     matches!(name.as_bytes().first(), Some(b'A'..=b'Z'))
 }
 
-/// Whether a name has no byte that those of functions don't have.
+/// Whether each byte of a name is a capital letter, a digit, `-` or `_`.
 fn has_callee_bytes(name: &str) -> bool
     ensures { result ≡ list_all is_callee_byte name.now }
 {
@@ -256,7 +256,7 @@ fn report_format_in(found: &ArgMatches<'_>) -> Option<ReportFormat>
     Some(format_by(format, colours))
 }
 
-/// The format that is named, if there is such a one.
+/// The format that is named, if there is such a format.
 fn format_in(found: &ArgMatches<'_>) -> Option<ReportFormat>
     ensures { option_map format_view result ≡ format_in (found_rows found.now) }
 {
@@ -270,7 +270,7 @@ fn colours_in(found: &ArgMatches<'_>) -> Option<bool>
     colours_named(found.get_str("color")?)
 }
 
-/// Whether this choice asks for colours, if there is such a one.
+/// Whether this choice asks for colours, if there is such a choice.
 pub(crate) fn colours_named(name: &str) -> Option<bool>
     ensures { result ≡ colours_named name.now }
 {
@@ -291,7 +291,7 @@ fn format_by(format: ReportFormat, colours: bool) -> ReportFormat
     }
 }
 
-/// The format of a name.
+/// The format of this name, if there is one.
 pub(crate) fn format_named(name: &str) -> Option<ReportFormat>
     ensures { option_map format_view result ≡ format_named name.now }
 {

@@ -13,14 +13,14 @@ use crate::version::VERSION;
 use clap::{Arg, ArgAction, Command};
 use std::alloc::{AllocError, Global};
 
-/// What `run` reads, for its help.
+/// The lines on requests in the help of `run`.
 const REQUESTS: &str =
     "A request is an id, as `login`, or one with an attribute, as `login.title`, and then arguments,
 each after a tab: NAME=VALUE.
 
 Example: printf 'welcome\\tname=Jane\\n' | ftl run hello.ftl";
 
-/// What follows the options in the help of `lint`.
+/// The lines after the options in the help of `lint`.
 const CODES_AND_EXAMPLE: &str =
     "Without PATH, the project of the first l10n.toml here or in a folder above is linted. PATH can
 be such a file, too, or patterns, as 'l10n/{locale}/**' with --reference 'l10n/en/**'. In a
@@ -223,7 +223,7 @@ fn explaining<'a>(alloc: Global) -> Result<Command<'a>, AllocError>
     with_argument(in_project(alloc), explained(alloc))
 }
 
-/// The same without the code that is to be explained.
+/// The command `lint` without its paths and `--explain`.
 fn in_project<'a>(alloc: Global) -> Result<Command<'a>, AllocError>
     ensures { IfOk result (IsShaped (shaped (codes "lint") project_rules)) }
 {
@@ -233,7 +233,7 @@ fn in_project<'a>(alloc: Global) -> Result<Command<'a>, AllocError>
     )
 }
 
-/// The same without the findings that a project had.
+/// The command `lint` without its paths, `--explain` and the options on baselines.
 fn within<'a>(alloc: Global) -> Result<Command<'a>, AllocError>
     ensures { IfOk result (IsShaped (shaped (codes "lint") within_rules)) }
 {
@@ -243,7 +243,7 @@ fn within<'a>(alloc: Global) -> Result<Command<'a>, AllocError>
     )
 }
 
-/// The same without the options that are of projects alone.
+/// The command `lint` with the options that aren't of projects alone, but for `--explain`.
 fn reporting<'a>(alloc: Global) -> Result<Command<'a>, AllocError>
     ensures { IfOk result (IsShaped (shaped (codes "lint") linting_rules)) }
 {
@@ -251,14 +251,14 @@ fn reporting<'a>(alloc: Global) -> Result<Command<'a>, AllocError>
     with_argument(with_argument(command, report_format(alloc)), colours(alloc))
 }
 
-/// The same without the options that say how findings are reported.
+/// The command `lint` with the options that say what is known, and which findings are reported.
 fn choosing<'a>(alloc: Global) -> Result<Command<'a>, AllocError>
     ensures { IfOk result (IsShaped (shaped (codes "lint") reported_rules)) }
 {
     with_argument(with_argument(filtering(alloc), notes(alloc)), counts(alloc))
 }
 
-/// The same with the options alone that say what is known, and which findings are left out.
+/// The command `lint` with the options that say what is known, and which findings are left out.
 fn filtering<'a>(alloc: Global) -> Result<Command<'a>, AllocError>
     ensures { IfOk result (IsShaped (shaped (codes "lint") filtered_rules)) }
 {
@@ -268,7 +268,7 @@ fn filtering<'a>(alloc: Global) -> Result<Command<'a>, AllocError>
     )
 }
 
-/// The same with the options alone that say what is known of the program and of the language.
+/// The command `lint` with the options that say what is known of the program and of the language.
 fn comparing<'a>(alloc: Global) -> Result<Command<'a>, AllocError>
     ensures { IfOk result (IsShaped (shaped (codes "lint") known_rules)) }
 {
@@ -287,7 +287,7 @@ fn asking<'a>(alloc: Global, name: &'a str, about: &'a str) -> Result<Command<'a
     )
 }
 
-/// The same with the flags alone.
+/// A command of this name with the flags `--no-isolating` and `--overriding`.
 fn flagged<'a>(alloc: Global, name: &'a str, about: &'a str) -> Result<Command<'a>, AllocError>
     ensures { IfOk result (IsShaped (shaped name.entry.now flagged_rules)) }
 {
@@ -312,7 +312,7 @@ pub(crate) fn with_argument<'a>(
     command?.arg(argument)
 }
 
-/// Whether values are set off by no marks.
+/// Whether values have no isolation marks.
 fn not_isolating<'a>(alloc: Global) -> Arg<'a>
     ensures { IsLocal (flag_rule (codes "no-isolating")) result }
 {
@@ -374,14 +374,14 @@ pub(crate) fn flag<'a>(alloc: Global, name: &'a str) -> Arg<'a>
     Arg::new(alloc, name).long(name).action(ArgAction::SetTrue)
 }
 
-/// An option of this name with one value, which help calls so.
+/// An option of this name with one value, which help calls `value`.
 pub(crate) fn option<'a>(alloc: Global, name: &'a str, value: &'a str) -> Arg<'a>
     ensures { IsLocal (option_rule name.entry.now) result }
 {
     Arg::new(alloc, name).long(name).value_name(value)
 }
 
-/// An option of this name with one value, which it has if it isn't given, too.
+/// An option of this name with one value, which is `default` if the option isn't given.
 pub(crate) fn option_or<'a>(
     alloc: Global,
     name: &'a str,
@@ -393,7 +393,8 @@ pub(crate) fn option_or<'a>(
     option(alloc, name, value).default_value(default)
 }
 
-/// An option of this name that may come more than once, with one value each, which help calls so.
+/// An option of this name that may come more than once, with one value each, which help calls
+/// `value`.
 pub(crate) fn each<'a>(alloc: Global, name: &'a str, value: &'a str) -> Arg<'a>
     ensures { IsLocal (each_rule name.entry.now) result }
 {

@@ -1,4 +1,4 @@
-//! What `lint` and `status` are asked for of a project.
+//! The commands `lint` and `status` on a project, from what `clap` found for them.
 ghost use Rattle.std.specs.Prelude.{◌≡◌, ◌&&◌, ◌||◌, ◌==◌, IfOk, Some, None, codes, not, option_map};
 ghost use Rattle.std.specs.List.{list_any};
 ghost use Rattle.fluent_serve.specs.Requests.{arguments_of};
@@ -84,7 +84,8 @@ fn has_variables(found: &ArgMatches<'_>) -> bool
     is_any(found.get_raw("define").unwrap_or(&[]))
 }
 
-/// What `lint` is asked for of a project.
+/// The linting of a project, whose options that other paths have, too, are in `lint`. Counts are
+/// refused.
 fn project_linting<'words>(
     alloc: Global,
     found: &ArgMatches<'words>,
@@ -110,7 +111,7 @@ fn project_linting<'words>(
     })
 }
 
-/// What was found for `status`.
+/// Reads what was found for `status`.
 ///
 /// # Errors
 /// [`WordsError::Bad`]: there is no such format, the paths name no project, or they don't go with
@@ -136,7 +137,7 @@ pub(crate) fn status_in<'words>(
     })
 }
 
-/// The format of a table that is named, if there is such a one.
+/// The format of a table that is named, if there is such a format.
 fn table_format_in(found: &ArgMatches<'_>) -> Option<TableFormat>
     ensures { option_map table_format_view result ≡ table_format_in (found_rows found.now) }
 {

@@ -1,4 +1,4 @@
-//! From words to what they ask for.
+//! Reading of command-line arguments.
 ghost use Rattle.std.specs.Prelude.{◌≡◌, IfOk, IfErr, IsErrOf, Some, None, option_map};
 ghost use Rattle.clap.specs.Words.{kind_of};
 ghost use Rattle.ftl_arguments.specs.Meaning.{AskForHelpAlone, AskForVersionAlone, command_of, texts};
@@ -21,12 +21,12 @@ use clap::error::ErrorKind;
 use clap::{ArgMatches, Error};
 use std::alloc::{AllocError, Global};
 
-/// Why what `clap` found for a command is none.
+/// Why there is no command, although `clap` found one.
 #[derive(Clone, Copy)]
 pub(crate) enum WordsError {
     /// Memory ran out.
     Memory,
-    /// The program lets less pass than `clap` does.
+    /// The program refuses it, as it lets less pass than `clap` does.
     Bad,
 }
 
@@ -67,7 +67,7 @@ pub fn command<'words>(
     }
 }
 
-/// What was met: the explanation of a code, or a command, or what is wrong with it.
+/// The explanation of a code, or the command that was met, or what is wrong with it.
 fn met<'words>(
     alloc: Global,
     words: &[&str],
@@ -176,7 +176,7 @@ fn command_named<'words>(
     }
 }
 
-/// The same for a command that tidies.
+/// The command of a name that tidies, with what was found for it.
 fn tidying_named<'words>(
     alloc: Global,
     name: &str,

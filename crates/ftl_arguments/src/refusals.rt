@@ -1,4 +1,4 @@
-//! What `clap` lets pass, and the program doesn't.
+//! Commands that `clap` lets pass, and the program refuses.
 
 use crate::codes::all_codes;
 use crate::linting::{colours_named, format_named, is_code, is_finding_code, is_function_name};
@@ -7,7 +7,7 @@ use clap::ArgMatches;
 use std::alloc::{AllocError, Global};
 use strsim::jaro;
 
-/// What the program refuses of a command.
+/// Why the program refuses a command.
 #[derive(Clone, Copy)]
 pub(crate) enum Refused<'words> {
     /// The value of an option, which takes something else.
@@ -78,7 +78,7 @@ impl<'words> Refused<'words> {
     }
 }
 
-/// What `lint` refuses.
+/// The first refusal of `lint`, if there is one.
 fn refused_by_lint<'words>(found: &ArgMatches<'words>) -> Option<Refused<'words>> {
     refused_explanation(found)
         .or_else(|| refused_way(found))
@@ -86,7 +86,7 @@ fn refused_by_lint<'words>(found: &ArgMatches<'words>) -> Option<Refused<'words>
         .or_else(|| refused_project(found))
 }
 
-/// What doesn't go with paths that name a project, or with others.
+/// The first refusal of `lint` that depends on whether its paths name a project.
 fn refused_project<'words>(found: &ArgMatches<'words>) -> Option<Refused<'words>> {
     let paths = found.get_raw("PATH").unwrap_or(&[]);
     if names_project(paths) {
@@ -114,7 +114,7 @@ fn refused_project<'words>(found: &ArgMatches<'words>) -> Option<Refused<'words>
     None
 }
 
-/// What the words of a project may not be.
+/// The first refusal of the variables and references of a project.
 fn refused_of_project<'words>(found: &ArgMatches<'words>) -> Option<Refused<'words>> {
     let variables = found.get_raw("define").unwrap_or(&[]);
     if let Some(variable) = variables.iter().find(|variable| !variable.contains('=')) {
@@ -130,7 +130,7 @@ fn refused_of_project<'words>(found: &ArgMatches<'words>) -> Option<Refused<'wor
     None
 }
 
-/// What `status` refuses.
+/// The first refusal of `status`, if there is one.
 fn refused_by_status<'words>(found: &ArgMatches<'words>) -> Option<Refused<'words>> {
     let format = found.get_str("format")?;
     if table_format_named(format).is_none() {
@@ -146,7 +146,7 @@ fn refused_by_status<'words>(found: &ArgMatches<'words>) -> Option<Refused<'word
     refused_of_project(found)
 }
 
-/// A way to write findings that there isn't.
+/// The refusal of an unknown format or choice of colours, if there is one.
 fn refused_way<'words>(found: &ArgMatches<'words>) -> Option<Refused<'words>> {
     let format = found.get_str("format")?;
     if format_named(format).is_none() {
@@ -167,7 +167,8 @@ fn refused_way<'words>(found: &ArgMatches<'words>) -> Option<Refused<'words>> {
     None
 }
 
-/// A code or the name of a function that there can't be, or counts of nothing.
+/// The refusal of an unknown code, of a function's name that messages can't call, or of counts
+/// without a reference.
 fn refused_name<'words>(found: &ArgMatches<'words>) -> Option<Refused<'words>> {
     if let Some(refused) = refused_code(found) {
         return Some(refused);
@@ -186,7 +187,7 @@ fn refused_name<'words>(found: &ArgMatches<'words>) -> Option<Refused<'words>> {
     None
 }
 
-/// A code that is to be explained, and that no finding has.
+/// The refusal of a code that is to be explained, if no finding has it.
 fn refused_explanation<'words>(found: &ArgMatches<'words>) -> Option<Refused<'words>> {
     let code = found.get_str("explain")?;
     if is_finding_code(code) {
@@ -199,7 +200,7 @@ fn refused_explanation<'words>(found: &ArgMatches<'words>) -> Option<Refused<'wo
     }
 }
 
-/// A code that no finding has, of those that are left out or selected.
+/// The refusal of the first code that is left out or selected and that no finding has.
 fn refused_code<'words>(found: &ArgMatches<'words>) -> Option<Refused<'words>> {
     if let Some(code) = unknown_code(found, "ignore") {
         return Some(Refused::Code {
@@ -224,7 +225,7 @@ fn unknown_code<'words>(found: &ArgMatches<'words>, option: &str) -> Option<&'wo
     None
 }
 
-/// What `format` refuses.
+/// The first refusal of `format`, if there is one.
 fn refused_by_format<'words>(found: &ArgMatches<'words>) -> Option<Refused<'words>> {
     let argument = found
         .get_raw("argument")?

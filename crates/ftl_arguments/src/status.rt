@@ -7,7 +7,7 @@ use crate::program::{each, flag, named, option, option_or, with_argument, with_s
 use clap::{Arg, Command};
 use std::alloc::{AllocError, Global};
 
-/// What follows the options in the help of `status`.
+/// The lines after the options in the help of `status`.
 const EXAMPLE: &str =
     "Without PATH, the project is that of the first l10n.toml here or in a folder above.
 

@@ -1,4 +1,4 @@
-//! What `tidy` is asked for.
+//! The command `tidy`, as `clap` knows it, and from what was found for it.
 ghost use Rattle.std.specs.Prelude.{◌≡◌, IfOk, codes};
 ghost use Rattle.clap.specs.Words.{app_of, with_subcommand};
 ghost use Rattle.ftl_arguments.specs.CommandView.{command_view, found_rows, tidy_files_view};
@@ -16,7 +16,7 @@ use std::alloc::{AllocError, Global};
 pub(crate) const PATHS: &str =
     "Files, and folders with each `.ftl` file below them; `-` alone is standard input";
 
-/// What follows the options in the help of `tidy`.
+/// The lines after the options in the help of `tidy`.
 const EXAMPLE: &str = "The tidy text of standard input is written to standard output.
 
 Example: ftl tidy --check locales";
@@ -52,7 +52,7 @@ pub(crate) fn paths<'a>(alloc: Global) -> Arg<'a>
         .help(PATHS)
 }
 
-/// What was found for `tidy`: files, or a hyphen alone for standard input.
+/// Reads what was found for `tidy`: files, or a hyphen alone for standard input.
 ///
 /// # Errors
 /// [`AllocError`] if memory runs out; nothing is kept.

@@ -39,8 +39,8 @@ fn is_dated(argument: &(&str, &str)) -> bool
     date_variable(argument.0).is_some()
 }
 
-/// What dates are written by: the locale with this tag, if there is one and CLDR knows its
-/// language, and if they aren't to be plain.
+/// How the locale with this tag writes dates, if there is one and CLDR knows its language, and if
+/// they aren't to be plain.
 fn dates_of(locale: Option<&str>, plain: bool) -> Option<LocaleDates>
     ensures { row_of result ≡ dates_asked plain (option_copied locale.entry) }
 {
@@ -50,9 +50,9 @@ fn dates_of(locale: Option<&str>, plain: bool) -> Option<LocaleDates>
     }
 }
 
-/// What is written of the message that is asked for with a date among the arguments: if a name
-/// ends in `:date`, as `due:date`, its text is the date of the variable `due`. A text that is no
-/// date leaves its variable unset. Messages may call `DATETIME`.
+/// The output for the message that is asked for with a date among the arguments: if a name ends in
+/// `:date`, as `due:date`, the argument is the date of the variable `due`. A text that is no date
+/// leaves its variable unset. Messages may call `DATETIME`.
 ///
 /// # Errors
 /// [`AllocError`] if memory runs out; nothing is kept.

@@ -8,11 +8,11 @@ use ftl_files::Reported;
 /// How a command ended that met no fault.
 #[derive(Debug, PartialEq, Eq, Drop)]
 pub enum Ended {
-    /// What was asked for is done.
+    /// All that was asked for is done.
     Done,
-    /// It is done, and what was found in the sources makes the status 1.
+    /// All is done, and what was found in the sources makes the status 1.
     Found,
-    /// It is done, and these are the lines of what went wrong in a text or was found in files, if
+    /// All is done, and these are the lines of what went wrong in a text or was found in files, if
     /// that isn't written already.
     Incomplete { errors: String },
     /// A path stands for no file, and these are the lines of that and of what was found.

@@ -1,4 +1,4 @@
-//! What ends the program before the end of its input.
+//! The failures that end the program before the end of its input.
 ghost use Rattle.std.specs.Prelude.{◌≡◌, ◌++◌, IfOk, Some, string_bytes};
 ghost use Rattle.ftl_command.specs.Faults.{status_of, fault_text, run_fault, import_fault, project_fault};
 ghost use Rattle.ftl_command.specs.Faults.{reason_of, return_reason, unreadable_reason};
@@ -72,7 +72,7 @@ pub struct FilePlace<'words> {
     pub row: usize,
 }
 
-/// What may be meant by the name of a file that is missing.
+/// A guess at what was meant by the name of a file that is missing.
 #[derive(Clone, Copy, Debug, PartialEq, Eq)]
 pub enum Meant {
     /// Nothing else.

@@ -65,7 +65,8 @@ fn end_with(errors: String) -> Ended
     }
 }
 
-/// What is written of the message that is asked for.
+/// The text and the errors of the message that is asked for. The contents of the folder stay as
+/// they are.
 fn formatted_on<'words, F: Folder>(
     folder: &mut F,
     alloc: Global,
@@ -117,7 +118,7 @@ pub(crate) fn settings_of(format: &Format<'_>, rules: &RunRules) -> Settings
     }
 }
 
-/// What is written of it from these sources.
+/// The text and the errors of the message from these sources; `None` if they don't have it.
 fn formatted_from(
     alloc: Global,
     format: &Format<'_>,

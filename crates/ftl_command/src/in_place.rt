@@ -36,7 +36,7 @@ pub fn tidy_in_place<'words, F: Folder, O: Sink>(
     Ok(end_of(tidied))
 }
 
-/// The end of files of which this is said.
+/// The end of a command by its output on files that are tidied.
 pub(crate) fn end_of(tidied: TidiedFiles) -> Ended
     ensures { EndsBy (said_view tidied) result }
 {

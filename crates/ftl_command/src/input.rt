@@ -65,7 +65,8 @@ pub(crate) fn read_input<'words, I: Source>(
     read_blocks(alloc, reader, block.as_mut_slice(), READS)
 }
 
-/// The same by blocks of this length, in at most `reads` calls of `read`.
+/// All that is left of the input, by blocks of this length. It fails after `reads` calls of `read`
+/// without an end.
 fn read_blocks<'words, I: Source>(
     alloc: Global,
     reader: &mut I,
@@ -130,7 +131,8 @@ fn tidy_text<'words, O: Sink>(
     write_end(alloc, check, source, &end, writer)
 }
 
-/// Writes what is to be written of a source by what became of it, and ends with what is said of it.
+/// Writes the output for a source by the outcome of tidying it. A report on the source is in the
+/// end.
 fn write_end<'words, O: Sink>(
     alloc: Global,
     check: bool,
@@ -150,7 +152,8 @@ fn write_end<'words, O: Sink>(
     Ok(end_of(said))
 }
 
-/// The text that is written of a source by what became of it, with the names of what changed.
+/// The text that is written for a source by the outcome of tidying it: the names with `check`, and
+/// otherwise the tidy text, or nothing if it has none.
 fn text_of<'a>(check: bool, source: &'a str, end: &'a FileEnd, names: &'a str) -> &'a str
     requires names { names.now ≡ (said_of check (end_view end.now)).names }
     ensures { result.now ≡ written_of check source.now (end_view end.now) }

@@ -166,7 +166,7 @@ fn report_sources(
     })
 }
 
-/// What is known of the program and of the language, with these plural rules.
+/// The options of a catalog: the functions of the program, and these plural rules of the language.
 fn options_of<'a>(lint: &'a Lint<'_>, plurals: Option<LanguagePlurals>) -> Options<'a>
     ensures { options_view result ≡ options_asked (lint_view lint.now) plurals }
 {
@@ -176,7 +176,7 @@ fn options_of<'a>(lint: &'a Lint<'_>, plurals: Option<LanguagePlurals>) -> Optio
     }
 }
 
-/// What is to be written of findings, and which of them fail.
+/// The options of the report: how findings are written, which are left out, and which of them fail.
 fn output_of<'a>(lint: &'a Lint<'_>) -> Output<'a>
     ensures { output_view result ≡ output_asked (lint_view lint.now) }
 {

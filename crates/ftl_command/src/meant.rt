@@ -1,4 +1,4 @@
-//! What may be meant by words of `format` that name no file, or no message.
+//! Guesses at what was meant by words of `format` that name no file, or no message.
 
 use crate::fault::Meant;
 use fluent_ast::{Entry, Message};
@@ -8,7 +8,7 @@ use ftl_arguments::Format;
 use std::alloc::{AllocError, Global};
 use strsim::osa_distance;
 
-/// What may have been meant by the name of a file that can't be read for this reason.
+/// A guess at what was meant by the name of a file that can't be read for this reason.
 pub(crate) fn meant_by_file(format: &Format<'_>, file: &str, why: Option<&str>) -> Meant {
     if why != Some("no such file") || file.ends_with(".ftl") {
         Meant::Nothing

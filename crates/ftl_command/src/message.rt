@@ -10,7 +10,7 @@ use fluent_run::{Desk, Reply, Settings, StackBudget, valued_arguments};
 use fluent_value::{FluentArgs, MemoizerKind, NoCustom};
 use std::alloc::{AllocError, Global};
 
-/// What is written of a message.
+/// The output for a message.
 #[derive(Debug, Drop)]
 pub struct Formatted {
     /// Its text, and a line feed.
@@ -41,7 +41,7 @@ pub fn format_message<M: MemoizerKind>(
     written(alloc, reply)
 }
 
-/// What a message of the sources gives for these arguments, if there is one.
+/// The reply of a message of the sources to these arguments, if they have the message.
 fn reply<M: MemoizerKind>(
     alloc: Global,
     sources: &[&str],
@@ -60,7 +60,7 @@ fn reply<M: MemoizerKind>(
     desk.format(alloc, id, attribute, arguments)
 }
 
-/// What is written of a reply, if there is one.
+/// The output for a reply, if there is one.
 pub(crate) fn written(alloc: Global, reply: Option<Reply>) -> Result<Option<Formatted>, AllocError>
     ensures { IfOk result (IsWrittenAs (option_map reply_view reply)) }
 {

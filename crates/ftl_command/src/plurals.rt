@@ -1,5 +1,5 @@
-//! What the locale of a run decides: the plural rules that choose variants, and how numbers are
-//! written.
+//! The rules that the locale of a run decides: the plural rules that choose variants, and how
+//! numbers are written.
 ghost use Rattle.std.specs.Prelude.{◌≡◌, IfOk, IfErr, Some, option_map};
 ghost use Rattle.ftl_command.specs.Faults.{IsOfLocale, SaysUnknown};
 ghost use Rattle.fluent_numerals.specs.Views.{locale_view};
@@ -16,9 +16,9 @@ use std::borrow::CowStr;
 /// The plural rules of a run.
 #[derive(Clone, Copy, Debug, PartialEq, Eq)]
 pub enum RunPlurals {
-    /// Those of English, if no locale is named.
+    /// The rules of English, if no locale is named.
     English,
-    /// Those of the locale's language.
+    /// The rules of the locale's language.
     Language(LanguagePlurals),
 }
 
@@ -43,7 +43,7 @@ impl RunPlurals {
     }
 }
 
-/// What the locale of a run decides.
+/// The rules that the locale of a run decides.
 #[derive(Clone, Copy)]
 pub struct RunRules {
     /// The plural rules.
@@ -53,7 +53,7 @@ pub struct RunRules {
 }
 
 impl RunRules {
-    /// What the locale with this tag decides. Without one the plural rules are those of English,
+    /// The rules of the locale with this tag. Without one the plural rules are those of English,
     /// and numbers are written plainly; so they are, too, if that is asked for, or if CLDR doesn't
     /// say how the locale writes them.
     ///

@@ -88,7 +88,7 @@ pub fn write_status<'words, F: Folder, O: Sink>(
     write_end(end, writer)
 }
 
-/// Writes what is written of a project, and ends with what is said of its files.
+/// Writes the report or the table of a project. Errors of its files are in the end.
 fn write_end<'words, O: Sink>(end: ProjectEnd, writer: &mut O) -> Result<Ended, Fault<'words>>
     ensures written { OnOk result
         (Appends (O.contents writer.old) (O.contents writer.new) (string_bytes end.text)) }

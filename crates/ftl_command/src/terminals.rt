@@ -6,9 +6,9 @@ ghost use Rattle.ftl_command.specs.Terminals.{are_for_people, explains};
 /// Which of the streams that the program writes to are terminals.
 #[derive(Clone, Copy, Debug, PartialEq, Eq)]
 pub struct Terminals {
-    /// Whether standard output is one that shows colours, for a user who wants them.
+    /// Whether standard output is a terminal that shows colours, for a user who wants them.
     pub colours: bool,
-    /// Whether standard error is one.
+    /// Whether standard error is a terminal.
     pub faults: bool,
 }
 

@@ -1,4 +1,4 @@
-//! What the sources' files are tidied into.
+//! The commands that write sources anew: `clean`, `normalize`, `join`, `export` and `import`.
 ghost use Rattle.std.specs.Prelude.{◌≡◌, ◌⊎◌, Some, None, false, IfOk, OnOk, IfErr, IsErrOf, string_bytes};
 ghost use Rattle.serde_json.specs.Read.{read as read_text};
 ghost use Rattle.serde_json.specs.View.{view};
@@ -196,7 +196,7 @@ fn json_value<'words>(alloc: Global, text: &str) -> Result<Value, Fault<'words>>
     }
 }
 
-/// What is reported if sources aren't cleaned, and where the first carriage return of theirs is.
+/// The failure if sources aren't cleaned, with the place of their first carriage return.
 fn fault_of_clean<'words>(
     error: CleanError,
     files: &[&'words str],
@@ -212,7 +212,7 @@ fn fault_of_clean<'words>(
     }
 }
 
-/// What is reported if a source isn't normalized, and where what stands in the way is.
+/// The failure if a source isn't normalized, with the place or the report of its reason.
 fn fault_of_normalize<'words>(
     alloc: Global,
     error: NormalizeError,

@@ -1,4 +1,4 @@
-//! What becomes of a file that is tidied.
+//! The outcome of tidying a file.
 ghost use Rattle.std.specs.Prelude.{◌≡◌, ◌++◌, OnOk, Some, string_bytes};
 ghost use Rattle.ftl_files.specs.TidyView.{failure_line_of, failure_view};
 ghost use Rattle.ftl_files.specs.Tidying.{failure_words};
@@ -29,7 +29,7 @@ impl fmt::Display for Failure {
     }
 }
 
-/// What becomes of a file.
+/// The outcome of tidying a file.
 #[derive(Debug, PartialEq, Eq, Drop)]
 pub enum FileEnd {
     /// It is tidy.

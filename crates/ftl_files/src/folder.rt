@@ -42,7 +42,7 @@ pub enum ReplaceError {
     Unwritable,
 }
 
-/// What a name stands for.
+/// The sources that a name stands for.
 #[derive(Debug, Drop)]
 pub struct Listing {
     /// The sources below a folder, or the name alone, if it isn't a folder's.
@@ -52,7 +52,7 @@ pub struct Listing {
 }
 
 impl Listing {
-    /// Nothing.
+    /// A listing without sources and folders.
     pub fn new(alloc: Global) -> Listing
         ensures { listed_names result ≡ [] }
     {

@@ -22,7 +22,7 @@ pub(crate) struct Listed {
 }
 
 impl Listed {
-    /// Those of no path.
+    /// The files of no path: no name, and no line.
     fn new(alloc: Global) -> Listed
         ensures { listed_view result ≡ nothing_listed }
     {
@@ -78,7 +78,7 @@ pub(crate) fn list_paths<F: Folder>(
     Ok(listed)
 }
 
-/// What a path stands for. One that can't be listed itself is listed as a folder below that can't
+/// The listing of a path. A path that can't be listed itself is listed as a folder below that can't
 /// be.
 pub(crate) fn list_path<F: Folder>(
     folder: &mut F,

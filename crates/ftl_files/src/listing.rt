@@ -17,8 +17,8 @@ use std::rt::Files;
 /// can't be listed, `why` becomes the reason, in words.
 ///
 /// # Errors
-/// What the system says of a folder that can't be listed itself, or that memory ran out; nothing is
-/// kept.
+/// The error of the system for a folder that can't be listed itself, or one that says that memory
+/// ran out; nothing is kept.
 pub(crate) fn list_sources<R: Files>(
     files: &R,
     alloc: Global,
@@ -52,7 +52,7 @@ fn alone(alloc: Global, name: &str) -> Result<Vec<String>, AllocError>
     Ok(names)
 }
 
-/// What was found below a folder, and the folders that are still to be listed.
+/// A walk below a folder: the folders that are still to be listed, and what was found.
 #[derive(Drop)]
 struct Walk {
     folders: Vec<String>,
@@ -75,7 +75,7 @@ fn list_below<R: Files>(
     Ok(listing)
 }
 
-/// The same as the system lists them.
+/// The sources below a folder and the folders that can't be listed, in the order of the walk.
 fn find_below<R: Files>(
     files: &R,
     alloc: Global,
@@ -173,7 +173,8 @@ fn slash_after(folder: &str) -> &'static str
     }
 }
 
-/// Whether it may be read to its end, as a pipe may not. A link may lead to a file.
+/// Whether a file of this type may be read to its end, as a pipe may not. A link may lead to a
+/// file.
 fn is_text_file(kind: FileType) -> bool
     ensures { IsTrue result ↔ (IsFile kind ⊎ IsSymlink kind) }
 {

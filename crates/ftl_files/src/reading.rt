@@ -18,7 +18,7 @@ use std::alloc::{AllocError, Global};
 pub struct SourceFile {
     /// Its name.
     pub name: String,
-    /// What it holds.
+    /// The text that it holds.
     pub source: String,
 }
 
@@ -35,7 +35,7 @@ pub struct ReadSources {
 }
 
 impl ReadSources {
-    /// Nothing yet.
+    /// The reading of no file.
     fn new(alloc: Global) -> ReadSources
         ensures { read_view result ≡ nothing_read }
     {
@@ -46,8 +46,8 @@ impl ReadSources {
         }
     }
 
-    /// What is read of a source that is in no file, by its bytes: if they aren't UTF-8, or nest too
-    /// deep, a line says so.
+    /// The reading of a source that is in no file, from its bytes: if they aren't UTF-8, or nest
+    /// too deep, a line says so.
     ///
     /// # Errors
     /// [`AllocError`] if memory runs out; nothing is kept.

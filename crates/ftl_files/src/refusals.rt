@@ -19,11 +19,11 @@ use lint_report::{Format, report};
 use memchr::{memchr, memchr3};
 use std::alloc::{AllocError, Global};
 
-/// What to do about an entry that would be read otherwise.
+/// A hint at how to change an entry that would be read otherwise.
 const SHAPES: &str =
     "write `.`, `[`, `*` or `{` at the start of a line of text as `{\"[\"}`, give each variant a name, and each comment a text";
 
-/// What becomes of the source of a file that has no tidy text for this reason.
+/// The outcome for the source of a file that has no tidy text for this reason.
 ///
 /// # Errors
 /// [`AllocError`] if memory runs out; nothing is kept.
@@ -41,7 +41,7 @@ pub(crate) fn refused_source(
     Ok(end_for(&reason, report))
 }
 
-/// What becomes of a source with this report.
+/// The outcome for a source with this reason and this report.
 fn end_for(reason: &TidyError, report: String) -> FileEnd
     ensures { end_view result ≡ end_for reason.now (string_bytes report) }
 {

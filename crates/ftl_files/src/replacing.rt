@@ -16,7 +16,7 @@ const TRIES: u32 = 100;
 /// Why a file of the system was not replaced.
 #[derive(Debug, Drop)]
 pub(crate) enum NotReplaced {
-    /// What the system says, or that memory ran out.
+    /// The error of the system, or one that says that memory ran out.
     System(Error),
     /// It holds something else than when it was read.
     Changed,
@@ -28,7 +28,7 @@ impl From<Error> for NotReplaced {
     }
 }
 
-/// What a file holds, and what it is to hold.
+/// The bytes that a file holds, and those that it is to hold.
 #[derive(Clone, Copy)]
 struct Change<'a> {
     path: &'a str,
@@ -180,7 +180,7 @@ fn write_synced<F: OpenFile + Write + Drop>(
     write_all(&mut file, found, bytes)
 }
 
-/// The same for a file that is closed later.
+/// Writes the bytes to a file that is open, with the mode of the old one, and has them stored.
 fn write_all<F: OpenFile + Write>(file: &mut F, found: &Metadata, bytes: &[u8]) -> io::Result<()>
     ensures { OnOk result (Appends (F.contents file.old) (F.contents file.new) bytes.now) }
 {

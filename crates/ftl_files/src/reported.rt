@@ -25,7 +25,7 @@ impl Reported {
         }
     }
 
-    /// What is reported of these files or of others.
+    /// The errors that are reported of these files or of others.
     pub fn or(self, other: Reported) -> Reported
         ensures { result ≡ both self other }
     {

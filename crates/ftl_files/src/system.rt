@@ -93,7 +93,7 @@ impl<'a, R: Files> FromFiles<'a, R> {
         self.why = Some("changed while it was tidied");
     }
 
-    /// The same of a call that reads a file. A folder is read only if it can't be listed.
+    /// Notes that a call that reads a file failed. A folder is read only if it can't be listed.
     fn note_unread(&mut self, error: &io::Error)
         ensures { self.new.failures ≡ one_more self.old.failures }
     {

@@ -1,4 +1,4 @@
-//! What is said of files that are tidied.
+//! The output on files that are tidied.
 ghost use Rattle.std.specs.Prelude.{◌≡◌, OnOk};
 ghost use Rattle.ftl_files.specs.TidyView.{after_failure, end_view, listed_view, said_view};
 ghost use Rattle.ftl_files.specs.Tidying.{nothing_said, said_after, said_of_listed};
@@ -8,7 +8,7 @@ use crate::listed::Listed;
 use crate::reported::Reported;
 use std::alloc::{AllocError, Global};
 
-/// What is said of files that are tidied.
+/// The output on files that are tidied.
 #[derive(Debug, Drop)]
 pub struct TidiedFiles {
     /// The names of those that changed or, if they are only checked, that aren't tidy, a line each.
@@ -22,7 +22,7 @@ pub struct TidiedFiles {
 }
 
 impl TidiedFiles {
-    /// What is said of no file.
+    /// The output on no file.
     pub fn new(alloc: Global) -> TidiedFiles
         ensures { said_view result ≡ nothing_said }
     {

@@ -71,7 +71,8 @@ pub fn tidy_file<F: Folder>(
     }
 }
 
-/// The same of a file that was read.
+/// Tidies a file whose source was read, and replaces the file unless it is only checked. If memory
+/// runs out, the file stays.
 fn tidy_read<F: Folder>(
     folder: &mut F,
     alloc: Global,
@@ -117,7 +118,7 @@ pub(crate) fn why_of<F: Folder>(folder: &F, failure: Failure) -> Option<&'static
     }
 }
 
-/// What becomes of a source, whose file has this name.
+/// The outcome of tidying a source, whose file has this name.
 ///
 /// # Errors
 /// [`AllocError`] if memory runs out; nothing is kept.
@@ -127,7 +128,7 @@ pub fn tidy_source(alloc: Global, name: &str, source: &str) -> Result<FileEnd, A
     source_end(alloc, name, source, tidy(alloc, source))
 }
 
-/// What becomes of a source that was tidied so.
+/// The outcome for a source by its tidy text, or by the reason why it has none.
 fn source_end(
     alloc: Global,
     name: &str,

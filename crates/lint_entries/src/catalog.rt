@@ -1,4 +1,4 @@
-//! What is known of a catalog.
+//! A catalog, as its entries are linted in it.
 
 ghost use Rattle.lint_entries.specs.CommonIn.{AreCommonIn};
 
@@ -7,13 +7,13 @@ use lint_findings::CatalogIds;
 use lint_flaws::CommonCategories;
 use lint_nodes::EndlessPatterns;
 
-/// What is known of a catalog: what its ids stand for and which of their references never end, what
-/// the ids of its reference stand for, and the plural rules of its language, if missing plural
-/// categories are to be found.
+/// A catalog: its ids with what they stand for and which of their references never end, the ids of
+/// its reference, and the plural rules of its language, if missing plural categories are to be
+/// found.
 #[derive(Clone, Copy)]
 pub struct Catalog<'c, 'r, 's> {
     pub endless: &'c EndlessPatterns<'c, 'r, 's>,
-    /// What the ids of the reference stand for. Without a reference it has no message.
+    /// The ids of the reference, with what they stand for. Without a reference there is no message.
     pub reference: &'c CatalogIds<'r, 's>,
     pub plurals: Option<LanguagePlurals>,
     /// The categories that are common by these rules.

@@ -88,7 +88,7 @@ impl<'a> Declarations<'a> {
         }))
     }
 
-    /// What has this id already.
+    /// The entry or function that has this id already.
     fn duplicate<'b>(&'b self, functions: &CatalogIds<'_, '_>, id: &'b str) -> Option<Duplicate<'b>>
         ensures { IsDuplicateAfter (ids_view _ functions.now) self.now id.now
             (option_map duplicate_text result) }

@@ -1,4 +1,4 @@
-//! What has the id of an entry, in words.
+//! The entry or function that has the id of a later entry, in words.
 #![tactic(auto)]
 
 ghost use Rattle.std.specs.Prelude.{Some};
@@ -7,7 +7,7 @@ ghost use Rattle.lint_entries.specs.DuplicateText.{duplicate_text};
 use crate::location::Location;
 use std::fmt;
 
-/// What has the id of a later entry.
+/// The entry or function that has the id of a later entry.
 #[derive(Clone, Copy)]
 pub enum Duplicate<'a> {
     /// A function of this id.

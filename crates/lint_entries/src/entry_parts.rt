@@ -19,7 +19,7 @@ pub struct EntryParts<'r, 's> {
 }
 
 impl<'r, 's> EntryParts<'r, 's> {
-    /// Those of an entry, if it is a message or a term.
+    /// The parts of an entry, if it is a message or a term.
     pub fn of(entry: &'r Entry<&'s str>) -> Option<Self>
         ensures { option_map parts_view result ≡ parts_of (entry_of entry.now) }
     {

@@ -8,9 +8,9 @@
 //! id up once for each entry. So a catalog takes linear time. [`ReferredTerms`] knows the terms
 //! that a catalog refers to, and so those that it doesn't.
 //!
-//! What is known of the catalog is a [`Catalog`]. The entry is one of a tree, and the text is the
+//! A [`Catalog`] is what is known of the catalog. The entry is one of a tree, and the text is the
 //! source from the entry on: how much of the source is left at a finding says where it is. [`text`]
-//! has what follows the words of an entry, for crates that go through one. `Tiles.antt` and
+//! has the rests after the tokens of an entry, for crates that go through one. `Tiles.antt` and
 //! `EntryFindings.antt` of `lint_findings` say which tiles and findings there are, and
 //! `docs/reference/lint.md` has the rules in plain words.
 #![tactic(auto)]

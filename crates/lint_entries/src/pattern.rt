@@ -95,7 +95,7 @@ fn push_endless<'s>(
     Ok(())
 }
 
-/// That references never end, and go on at this one.
+/// The finding that references never end, and go on at this one.
 fn endless_finding(
     alloc: Global,
     name: &EntryPoint<'_, '_, '_>,

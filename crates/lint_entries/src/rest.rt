@@ -1,4 +1,4 @@
-//! What follows an entry in its source.
+//! The rest of a source after an entry.
 #![tactic(auto)]
 
 ghost use Rattle.std.specs.Prelude.{IfOk, option_map};
@@ -13,7 +13,7 @@ use fluent_ast::{Attribute, Message, Pattern, Term};
 use lint_nodes::{empty_pattern_rest, pattern_occurrences, skip};
 use std::alloc::{AllocError, Global};
 
-/// What follows a message. The text is the source from the message on.
+/// The rest after a message. The text is the source from the message on.
 ///
 /// # Errors
 /// [`AllocError`] if memory runs out; nothing is kept.
@@ -32,7 +32,7 @@ pub fn message_rest<'t>(
     Ok(rest)
 }
 
-/// What follows a term. The text is the source from the term on, with its minus.
+/// The rest after a term. The text is the source from the term on, with its minus.
 ///
 /// # Errors
 /// [`AllocError`] if memory runs out; nothing is kept.
@@ -51,8 +51,8 @@ pub fn term_rest<'t>(
     Ok(rest)
 }
 
-/// What follows the value of a message, which may have none. The text is the source from the value
-/// on.
+/// The rest after the value of a message, which may have none. The text is the source from the
+/// value on.
 fn value_rest<'t>(
     alloc: Global,
     value: &Option<Pattern<&str>>,
@@ -68,7 +68,7 @@ fn value_rest<'t>(
     }
 }
 
-/// What follows the attributes of an entry. The text is the source from the line of the first one
+/// The rest after the attributes of an entry. The text is the source from the line of the first one
 /// on.
 fn attributes_rest<'t>(
     alloc: Global,
@@ -87,7 +87,7 @@ fn attributes_rest<'t>(
     Ok(rest)
 }
 
-/// What follows a pattern. The text is the source from the pattern on.
+/// The rest after a pattern. The text is the source from the pattern on.
 fn pattern_rest<'t>(
     alloc: Global,
     pattern: &Pattern<&str>,

@@ -18,7 +18,7 @@ use std::slice;
 #[derive(Drop)]
 pub struct Walk<'s, 'e> {
     source: &'s str,
-    /// What is left of the source.
+    /// The rest of the source.
     rest: &'s [u8],
     /// The errors of the junk that is left.
     errors: slice::Iter<'e, ParserError>,

@@ -79,7 +79,7 @@ fn push_own<'s>(
     findings.append(&mut found)
 }
 
-/// What is known of the catalog of an entry: no plural rules if it is a copy of the reference's
+/// The catalog of an entry, but without plural rules if the entry is a copy of the reference's
 /// message, whose plural categories are those of the reference.
 fn catalog_for<'c, 'r, 's>(
     catalog: &Catalog<'c, 'r, 's>,

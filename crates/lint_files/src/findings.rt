@@ -131,7 +131,8 @@ fn entry_of(alloc: Global, junk: &str) -> Result<Option<String>, AllocError>
     }
 }
 
-/// What may be the cause of an error of this kind in junk, where this text is.
+/// The hint at the cause of an error of this kind in junk, if there is one. `at` is the text from
+/// the error on.
 fn hint_of(
     alloc: Global,
     kind: &ErrorKind,

@@ -1,4 +1,4 @@
-//! What a text begins with.
+//! The front of a text, in words.
 #![tactic(auto, using(fluent_tokens::proofs::Counted::cuts))]
 
 ghost use Rattle.std.specs.Prelude.{◌≡◌, Some};
@@ -8,7 +8,7 @@ ghost use Rattle.lint_findings.specs.SyntaxErrors.{begins_attribute, front_in_wo
 use fluent_tokens as words;
 use std::fmt;
 
-/// What a text begins with, in words: a character in backticks, or what is hard to see.
+/// The front of a text, in words: a character in backticks, or a name for what is hard to see.
 #[derive(Clone, Copy)]
 pub struct Front<'a>(pub &'a str);
 

@@ -1,4 +1,4 @@
-//! What may be the cause.
+//! Hints at the causes of syntax errors.
 #![tactic(auto, using(fluent_tokens::proofs::Counted::cuts))]
 
 ghost use Rattle.std.specs.Prelude.{◌≡◌, Some};
@@ -22,7 +22,8 @@ const MESSAGE: &str = "a variable is written `$name`, and an attribute `message.
 
 const ESCAPES: &str = "the escapes are `\\\\`, `\\\"`, `\\u` with 4 hex digits and `\\U` with 6";
 
-/// What may be the cause of an error of this kind in junk, where this text is, if there is a hint.
+/// The hint at the cause of an error of this kind in junk, if there is one. `at` is the text from
+/// the error on.
 pub fn hint(kind: &ErrorKind, junk: &str, at: &str) -> Option<&'static str>
     ensures { option_copied result ≡ hints.hint junk.now (refusal_by kind.now at.now) }
 {

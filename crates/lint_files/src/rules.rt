@@ -12,6 +12,6 @@ pub struct Rules<'c, 'r, 's> {
     pub catalog: Catalog<'c, 'r, 's>,
     /// The terms that the catalog refers to.
     pub terms: &'c ReferredTerms<'s>,
-    /// What entries that count are compared with, if there is a reference.
+    /// The reference that entries that count are compared with, if there is one.
     pub reference: Option<Reference<'c, 'r, 's>>,
 }

@@ -1,4 +1,4 @@
-//! What is wrong, in words.
+//! Syntax errors in words.
 #![tactic(auto, using(fluent_tokens::proofs::Counted::cuts))]
 
 ghost use Rattle.std.specs.Prelude.{◌≡◌, Some};
@@ -13,12 +13,12 @@ use crate::names::{Name, name_at_front};
 use fluent_parsed::ErrorKind;
 use std::fmt;
 
-/// What is wrong.
+/// A sentence on a syntax error.
 #[derive(Clone, Copy)]
 pub enum Sentence<'a> {
     /// A sentence that is the same for each refusal of its kind.
     Statement(&'static str),
-    /// What is expected, in words, and the text that is there.
+    /// These words say what is expected, and this text is there.
     Expected(&'static str, &'a str),
     /// An equals sign is expected after this name. The text is what is there.
     ExpectedEquals(Name<'a>, &'a str),
@@ -45,7 +45,7 @@ impl fmt::Display for Sentence<'_> {
 }
 
 impl<'a> Sentence<'a> {
-    /// The sentence for an error of this kind in junk, where this text is.
+    /// The sentence for an error of this kind in junk. `at` is the text from the error on.
     pub fn new(kind: &'a ErrorKind, junk: &'a str, at: &'a str) -> Sentence<'a>
         ensures { sentence_text result ≡ syntax.sentence junk.now (refusal_by kind.now at.now) }
     {

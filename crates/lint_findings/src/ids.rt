@@ -2,6 +2,6 @@
 
 use fluent_ids::FluentIds;
 
-/// What the ids of a catalog stand for. What a function does makes no difference to findings: it is
-/// known by its id.
+/// The ids of a catalog, with the entries or functions that they stand for. A function is known by
+/// its id alone: what it does makes no difference to findings.
 pub type CatalogIds<'r, 's> = FluentIds<'r, 's, ()>;

@@ -43,23 +43,23 @@ pub fn patterns_have_places()
     ensures { PatternsHavePlaces }
 {}
 
-/// What is found in a string literal as a placeable is one by the grammar, where it stands: of a
-/// variable, or of a term without attribute and arguments.
+/// A placeable that is found in a string literal is one by the grammar, where it is: of a variable,
+/// or of a term without attribute and arguments.
 pub fn quoted_placeables_are_spelled()
     ensures { QuotedAreSpelled }
 {}
 
-/// What is said of a node beside its errors is so: a literal has the placeable, a term has no such
-/// variable in any of its texts, no select on the variable has a variant with this key, no whole
-/// number below 1,000 is of the category, and a key that is nearly a category is none, but a slip
-/// of the keyboard away from the name of one.
+/// Each fact that is found of a node besides its errors is so: a literal has the placeable, a term
+/// has no such variable in any of its texts, no select on the variable has a variant with this key,
+/// no whole number below 1,000 is of the category, and a key that is nearly a category is none, but
+/// a slip of the keyboard away from the name of one.
 pub fn facts_are_true<F>()
     ensures { FactsAreTrue F }
 {}
 
-/// What is found wrong with an argument of `NUMBER` or `DATETIME` is so: the function has no such
-/// option, the option doesn't take such a value, or the call has the style next to which it doesn't
-/// count.
+/// Each mistake that is found in an argument of `NUMBER` or `DATETIME` is there: the function has
+/// no such option, the option doesn't take such a value, or the call has the style next to which it
+/// doesn't count.
 pub fn misuses_are_true()
     ensures { MisusesAreTrue }
 {}
@@ -70,8 +70,8 @@ pub fn near_names_are_there()
     ensures { NearestIsThere }
 {}
 
-/// What a hint names is there: a message, a term, an attribute, a variable, a variant, a category,
-/// an option, or a value that the option takes. A name that may be meant is a slip away.
+/// Each name in a hint is there: that of a message, a term, an attribute, a variable, a variant, a
+/// category, an option, or a value that the option takes. A name that may be meant is a slip away.
 pub fn hints_are_so<F>()
     ensures flaws { FlawHintsAreSo F }
     ensures facts { FactHintsAreSo F }

@@ -88,7 +88,7 @@ impl SourcePosition {
         place
     }
 
-    /// What is before this place on its line, and the text from this place on. If this place is
+    /// The front of the line of this place, and the text from this place on. If this place is
     /// within a character, the front ends after the character; if it is within a line end, the
     /// front ends before that.
     pub fn split<'a>(self, source: &'a str) -> (&'a str, &'a str)

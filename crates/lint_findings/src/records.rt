@@ -22,9 +22,9 @@ pub struct Finding {
     /// The id of the entry that it is in, a term's with its minus, and after a dot the name of its
     /// attribute if it is in an attribute: `-brand`, `login.title`.
     pub entry: Option<String>,
-    /// What is wrong, as a sentence without a full stop.
+    /// The mistake, as a sentence without a full stop.
     pub text: String,
-    /// What may be the cause, or what to write instead.
+    /// A likely cause, or the text to write instead.
     pub hint: Option<String>,
 }
 

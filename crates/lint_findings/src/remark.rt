@@ -13,9 +13,9 @@ pub struct Remark {
     /// The name of its kind, as `unknown-term`.
     pub code: &'static str,
     pub severity: Severity,
-    /// What is wrong, as a sentence without a full stop.
+    /// The mistake, as a sentence without a full stop.
     pub text: String,
-    /// What may be the cause, or what to write instead.
+    /// A likely cause, or the text to write instead.
     pub hint: Option<String>,
     /// How many bytes stand before it in what it is about.
     pub inside: usize,

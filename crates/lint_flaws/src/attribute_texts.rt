@@ -46,7 +46,7 @@ pub fn push_attribute_keys(
     }
 }
 
-/// Adds that of the attribute of this name of the term of this id.
+/// Adds what is said of the keys of a select on the attribute of this name of the term of this id.
 fn push_term_keys(
     alloc: Global,
     ids: &CatalogIds<'_, '_>,
@@ -215,7 +215,8 @@ impl AttributeText<'_, '_> {
         Ok(Remark::warning("unknown-term-variant", text).with_hint(Some(hint)))
     }
 
-    /// What is meant, if a key is nearly it, and otherwise what the attribute is.
+    /// The hint for a key: that the attribute's text may be meant, if the key is nearly it, and
+    /// otherwise the text itself.
     fn hint(&self, alloc: Global, key: &str) -> Result<String, AllocError>
         ensures { IfOk result (by.IsTextHint self.now.text.now key.now) }
     {
@@ -227,7 +228,7 @@ impl AttributeText<'_, '_> {
     }
 }
 
-/// One name.
+/// A name, as the only one that is known.
 #[derive(Clone, Copy)]
 struct OneName<'n> {
     name: &'n str,

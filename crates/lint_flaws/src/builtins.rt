@@ -8,7 +8,7 @@ ghost use Rattle.lint_flaws.specs.BuiltinView.{builtin_view, builtin_views, foun
 
 use crate::near::KnownNames;
 
-/// What an option of a function takes.
+/// The values that an option of a function takes.
 #[derive(Clone, Copy)]
 pub enum Takes {
     /// A number.
@@ -19,7 +19,7 @@ pub enum Takes {
     OneOf(&'static [&'static str]),
 }
 
-/// What the first argument of a function has to be.
+/// The kind of value that the first argument of a function has to be.
 #[derive(Clone, Copy)]
 pub enum Operand {
     /// A number.
@@ -42,7 +42,7 @@ pub struct FunctionOption {
 pub struct Builtin {
     /// The name by which a message calls it.
     pub name: &'static str,
-    /// What its first argument has to be.
+    /// The kind of value that its first argument has to be.
     pub operand: Operand,
     /// Its options.
     pub options: &'static [FunctionOption],
@@ -222,7 +222,7 @@ pub fn returns_number(name: &str) -> bool
 }
 
 impl Builtin {
-    /// What its option of this name takes, if it has one.
+    /// The values that its option of this name takes, if it has one.
     pub fn takes(&self, name: &str) -> Option<Takes>
         ensures { found_takes result ≡ b.taken_by (builtin_view self.now).options name.now }
     {

@@ -31,7 +31,7 @@ impl Categories {
         other: false,
     };
 
-    /// Those that whole numbers below 1,000 have, by rules of this kind.
+    /// The categories that whole numbers below 1,000 have, by rules of this kind.
     fn common(plurals: &LanguagePlurals, rule: PluralRuleType) -> Self
         ensures { (c : PluralCategory) → has result c ≡ m.is_common plurals.now rule c }
     {
@@ -68,7 +68,7 @@ pub struct CommonCategories {
 }
 
 impl CommonCategories {
-    /// Those by these rules. Without rules there are none.
+    /// The common categories by these rules. Without rules there are none.
     pub fn of(plurals: Option<LanguagePlurals>) -> Self
         ensures { AreCommonBy plurals result }
     {

@@ -99,7 +99,7 @@ fn character_of(spelled: Spelled) -> char
     char::from_u32(number).unwrap_or('\u{FFFD}')
 }
 
-/// What the characters at the front spell.
+/// The character that those at the front spell in a wrong encoding, by its bytes.
 fn spelled_at(text: &[u8]) -> Option<Spelled>
     ensures { option_map spelled_view result ≡ e.spelled_at text.now }
 {
@@ -122,7 +122,7 @@ fn spelled_at(text: &[u8]) -> Option<Spelled>
     }
 }
 
-/// A letter of U+00A0 to U+017F.
+/// The character of U+00A0 to U+017F whose UTF-8 these bytes are, if there is one.
 fn letter_of(first: Single, second: Single) -> Option<Spelled>
     ensures { option_map spelled_view result ≡ e.letter_of (single_view first) (single_view second) }
 {
@@ -137,7 +137,8 @@ fn letter_of(first: Single, second: Single) -> Option<Spelled>
     }
 }
 
-/// U+2000 to U+206F, U+20AC or U+2122.
+/// The character of U+2000 to U+206F, U+20AC or U+2122 whose UTF-8 these bytes are, if there is
+/// one.
 fn sign_of(first: Single, second: Single, third: Single) -> Option<Spelled>
     ensures { IsSpelled (e.sign_of (single_view first) (single_view second)
         (Some (single_view third))) result }
@@ -178,7 +179,7 @@ fn of_two(first: u8, second: u8) -> Option<Single>
     }
 }
 
-/// Of U+0140 to U+017F, by the last byte.
+/// The byte of a character of U+0140 to U+017F, by the last byte of its UTF-8.
 fn of_letter(last: u8) -> Option<Single>
     ensures { option_map single_view result ≡ e.of_two 0xC5 last }
 {
@@ -194,7 +195,7 @@ fn of_letter(last: u8) -> Option<Single>
     }
 }
 
-/// Of a character of these two bytes after 0xE2.
+/// The byte of a character whose UTF-8 has these two bytes after 0xE2.
 fn of_three(second: u8, third: u8) -> Option<Single>
     ensures { option_map single_view result ≡ e.of_three 0xE2 second third }
 {
@@ -206,7 +207,7 @@ fn of_three(second: u8, third: u8) -> Option<Single>
     }
 }
 
-/// Of U+2000 to U+203F, by the last byte.
+/// The byte of a character of U+2000 to U+203F, by the last byte of its UTF-8.
 fn of_sign(last: u8) -> Option<Single>
     ensures { option_map single_view result ≡ e.of_sign last }
 {

@@ -1,4 +1,4 @@
-//! One escape.
+//! The escape at the front of a text.
 #![tactic(auto, using(fluent_tokens::proofs::Counted::cuts))]
 
 ghost use Rattle.std.specs.Prelude.{◌≡◌, ◌++◌, ◌<◌, true, option_map, length};
@@ -36,7 +36,7 @@ fn digit_count(escape: &[u8]) -> usize
     }
 }
 
-/// What follows the escape at the front, or at least the byte that says which escape it is.
+/// The rest after the backslash at the front, and after a second one, if it follows.
 pub fn after_escape(text: &str) -> &str
     requires { w.begins_with w.backslash text.now ≡ true }
     ensures rest { invalid_escapes text.now ≡ escape_there text.now ++ invalid_escapes result.now }

@@ -1,4 +1,4 @@
-//! What is true of a node, whatever the request, although no answer has an error.
+//! Facts of a node that are so whatever the request, and of which no answer has an error.
 #![tactic(auto)]
 
 ghost use Rattle.std.specs.Prelude.{IfOk, OnOk};

@@ -127,7 +127,7 @@ impl<'s> Flaw<'_, 's> {
     }
 }
 
-/// That an entry, which is a term if there is this minus, has no attribute of this name.
+/// The remark that an entry, which is a term if there is this minus, has no attribute of this name.
 fn unknown_attribute(alloc: Global, sign: &str, id: &str, name: &str) -> Result<Remark, AllocError>
     ensures { IfOk result (IsOnAttribute sign.now id.now name.now) }
 {

@@ -1,4 +1,4 @@
-//! What is said of the characters of a text.
+//! Remarks on the characters of a text.
 #![tactic(auto)]
 
 ghost use Rattle.std.specs.Prelude.{◌≡◌, IfOk, OnOk, map, option_map};
@@ -17,8 +17,8 @@ use lint_findings::Remark;
 use lint_nodes::skip;
 use std::alloc::{AllocError, Global};
 
-/// What is said of the characters of a text, as it stands in a source: each remark has its place in
-/// the text.
+/// The remarks on the characters of a text, as it is in a source. Each has its place in the
+/// text.
 ///
 /// # Errors
 /// [`AllocError`] if memory runs out; nothing is kept.
@@ -62,7 +62,7 @@ fn is_special(text: &[u8]) -> bool
                     || (is_word_joiner(text) || (is_mark(text) || (opens(text) || closes(text)))))))
 }
 
-/// What is said of the characters of a text that may have such a character.
+/// The remarks on the characters of a text that may have one of which something may be said.
 fn special_remarks(alloc: Global, text: &[u8]) -> Result<Vec<Remark>, AllocError>
     ensures { IfOk result (λ found. map remark_view found.items ≡ l.letters text.now) }
 {
@@ -103,7 +103,7 @@ fn begins_after(before: bool, byte: u8) -> bool
     byte == b'\n' || (byte == b']' || (byte == b'"' || (before && byte == b' ')))
 }
 
-/// What is said of the character at the front of a text, if anything is.
+/// The remark on the character at the front of a text, if there is one.
 fn letter_at(
     alloc: Global,
     begins: bool,
@@ -213,7 +213,7 @@ fn zero_width_name(text: &[u8]) -> Option<&'static str>
     }
 }
 
-/// What is wrong with the mark of direction at the front, if one is there.
+/// The mistake in the mark of direction at the front, in words, if there is one.
 fn direction_words(begins: bool, depth: usize, text: &[u8]) -> Option<&'static str>
     ensures { option_map (λ s. s.now) result ≡ l.direction_words begins depth text.now }
 {

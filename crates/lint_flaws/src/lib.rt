@@ -1,4 +1,4 @@
-//! What is wrong with the nodes of a pattern, in a catalog.
+//! Mistakes in the nodes of a pattern, in a catalog.
 //!
 //! [`node_remarks`] says all that is wrong with a node: what a reference lacks, with a name that it
 //! looks like ([`near_hint`]) or what else may be meant, the plural categories that a translator

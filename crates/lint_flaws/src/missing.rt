@@ -63,7 +63,8 @@ fn missing_categories(
     missing_among(alloc, &CATEGORIES, common, selector, variants)
 }
 
-/// The same, of these categories.
+/// The categories, of these, that a select lacks: if it has a variant for one, those that it should
+/// have and has none for.
 fn missing_among(
     alloc: Global,
     categories: &[PluralCategory],
@@ -81,7 +82,7 @@ fn missing_among(
     lacking(alloc, categories, common, rule, variants)
 }
 
-/// Those of these categories that a select should have and that no variant is for.
+/// The categories, of these, that a select should have and that no variant is for.
 fn lacking(
     alloc: Global,
     categories: &[PluralCategory],

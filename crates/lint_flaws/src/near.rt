@@ -76,7 +76,7 @@ fn has_near_name<N: KnownNames>(
     has_addition(names, name, near)
 }
 
-/// The same of names with two neighbouring bytes swapped.
+/// Whether swapping two neighbouring bytes makes a known name. Then `near` holds the first one.
 fn has_swap<N: KnownNames>(names: &N, name: &str, near: &mut String) -> Result<bool, AllocError>
     requires { IsAscii name.now }
     ensures { FindsFirst result near.new (N.knows names.now) (swaps name.now) }
@@ -95,7 +95,7 @@ fn has_swap<N: KnownNames>(names: &N, name: &str, near: &mut String) -> Result<b
     Ok(false)
 }
 
-/// The same of names with one byte left out.
+/// Whether leaving out one byte makes a known name. Then `near` holds the first one.
 fn has_omission<N: KnownNames>(names: &N, name: &str, near: &mut String) -> Result<bool, AllocError>
     requires { IsAscii name.now }
     ensures { FindsFirst result near.new (N.knows names.now) (omissions name.now) }
@@ -111,7 +111,7 @@ fn has_omission<N: KnownNames>(names: &N, name: &str, near: &mut String) -> Resu
     Ok(false)
 }
 
-/// The same of names with one byte replaced.
+/// Whether replacing one byte makes a known name. Then `near` holds the first one.
 fn has_replacement<N: KnownNames>(
     names: &N,
     name: &str,
@@ -128,7 +128,7 @@ fn has_replacement<N: KnownNames>(
     Ok(false)
 }
 
-/// The same of names with one byte added.
+/// Whether adding one byte makes a known name. Then `near` holds the first one.
 fn has_addition<N: KnownNames>(names: &N, name: &str, near: &mut String) -> Result<bool, AllocError>
     requires { IsAscii name.now }
     ensures { FindsFirst result near.new (N.knows names.now) (additions name.now) }
@@ -141,7 +141,7 @@ fn has_addition<N: KnownNames>(names: &N, name: &str, near: &mut String) -> Resu
     has_between(names, name, "", near)
 }
 
-/// The same of names with one byte between these texts.
+/// Whether one byte between these texts makes a known name. Then `near` holds the first one.
 fn has_between<N: KnownNames>(
     names: &N,
     front: &str,

@@ -19,8 +19,7 @@ use fluent_ids::Entry;
 use lint_findings::CatalogIds;
 use lint_nodes::{Node, name_of};
 
-/// What is wrong with a node of a pattern, in a catalog with these ids. A node has one flaw at
-/// most.
+/// The flaw of a node of a pattern, in a catalog with these ids. A node has one at most.
 pub fn node_flaw<'a, 's>(ids: &CatalogIds<'_, 's>, node: Node<'a, 's>) -> Option<Flaw<'a, 's>>
     ensures { map flaw_view (option_to_list result)
         ≡ node_flaws (ids_view _ ids.now) (node_view node.entry) }
@@ -50,7 +49,7 @@ fn has_default(variants: &[Variant<&str>]) -> bool
     false
 }
 
-/// What a reference lacks.
+/// The flaw of a reference, if it has one.
 fn reference_flaw<'a, 's>(
     ids: &CatalogIds<'_, 's>,
     expression: &'a InlineExpression<&'s str>,
@@ -73,7 +72,7 @@ fn reference_flaw<'a, 's>(
     }
 }
 
-/// What a call of a function of this name lacks.
+/// The flaw of a call of a function of this name, if it has one.
 fn function_flaw<'a, 's>(ids: &CatalogIds<'_, 's>, id: &'s str) -> Option<Flaw<'a, 's>>
     ensures { IsFlawOf result (function_error id.now (find (ids_view _ ids.now) id.now)) }
 {
@@ -83,7 +82,7 @@ fn function_flaw<'a, 's>(ids: &CatalogIds<'_, 's>, id: &'s str) -> Option<Flaw<'
     }
 }
 
-/// What a reference to this message, or to this attribute of it, lacks.
+/// The flaw of a reference to this message, or to this attribute of it, if it has one.
 fn message_flaw<'a, 's>(
     ids: &CatalogIds<'_, 's>,
     id: &'s str,
@@ -104,7 +103,7 @@ fn message_flaw<'a, 's>(
     }
 }
 
-/// What a reference to this term, or to this attribute of it, lacks.
+/// The flaw of a reference to this term, or to this attribute of it, if it has one.
 fn term_flaw<'a, 's>(
     ids: &CatalogIds<'_, 's>,
     id: &'s str,

@@ -50,7 +50,7 @@ pub fn first_quoted(raw: &str) -> Option<Quoted<'_>>
     None
 }
 
-/// What follows the brace at the front.
+/// The rest after the brace at the front.
 fn after_brace(text: &str) -> &str
     requires { w.begins_with w.open_brace text.now ≡ true }
     ensures rest { result.now ≡ drop 1 text.now }
@@ -67,7 +67,7 @@ fn reference_in_braces(text: &str) -> Option<Reference<'_>>
     closed_reference(after_spaces(after_brace(text)))
 }
 
-/// What follows the spaces at the front.
+/// The rest after the spaces at the front.
 fn after_spaces(text: &str) -> &str
     ensures { result.now ≡ w.skip_spaces text.now }
 {

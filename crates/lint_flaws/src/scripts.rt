@@ -104,7 +104,7 @@ fn letters_len(text: &[u8]) -> usize
         .count()
 }
 
-/// After the byte at the front, whether a word goes on.
+/// Whether a word goes on after the byte at the front.
 fn goes_on(within: bool, text: &[u8]) -> bool
     ensures { result ≡ s.goes_on within text.now }
 {
@@ -140,7 +140,7 @@ fn pair_script(first: u8, second: u8) -> Option<Script>
     }
 }
 
-/// U+00C0 to U+024F, without the signs of times and divided.
+/// Whether these bytes are a letter of U+00C0 to U+024F: not the signs of times and divided.
 fn is_later_latin(first: u8, second: u8) -> bool
     ensures { result ≡ s.is_later_latin first second }
 {
@@ -152,7 +152,7 @@ fn is_later_latin(first: u8, second: u8) -> bool
     }
 }
 
-/// U+0370 to U+03FF, without marks.
+/// Whether these bytes are one of U+0370 to U+03FF, but for marks.
 fn is_greek(first: u8, second: u8) -> bool
     ensures { result ≡ s.is_greek first second }
 {
@@ -164,7 +164,7 @@ fn is_greek(first: u8, second: u8) -> bool
     }
 }
 
-/// U+0400 to U+052F, without marks.
+/// Whether these bytes are one of U+0400 to U+052F, but for marks.
 fn is_cyrillic(first: u8, second: u8) -> bool
     ensures { result ≡ s.is_cyrillic first second }
 {
@@ -255,7 +255,8 @@ fn pair_number(first: u8, second: u8) -> u16
     u16::from(first % 32) * 64 + u16::from(second % 64)
 }
 
-/// Adds that of two scripts, if a word has letters of both: it is at the first of the rarer.
+/// Adds the remark on a word that has letters of both scripts: at the first letter of the rarer
+/// one.
 fn push_mixed(
     alloc: Global,
     place: usize,
@@ -333,7 +334,7 @@ fn is_same(script: Script, other: Script) -> bool
     )
 }
 
-/// That a letter stands in a word of another script.
+/// The remark that a letter is in a word of another script.
 fn letter_remark(alloc: Global, letter: Letter, other: Script) -> Result<Remark, AllocError>
     ensures { IfOk result (λ said. remark_view said ≡ s.letter_remark (letter_view letter) (script_view other)) }
 {

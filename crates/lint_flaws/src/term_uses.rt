@@ -1,4 +1,4 @@
-//! What a term makes of its arguments.
+//! The uses that a term makes of its arguments.
 #![tactic(auto)]
 
 ghost use Rattle.std.specs.Prelude.{◌≡◌, IfOk, OnOk, count_by, map};

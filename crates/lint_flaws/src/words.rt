@@ -1,4 +1,4 @@
-//! What is said of the letters of a text as it stands in a source.
+//! Remarks on the letters of a text as it is in a source.
 #![tactic(auto)]
 
 ghost use Rattle.std.specs.Prelude.{◌≡◌, ◌++◌, IfOk, map};

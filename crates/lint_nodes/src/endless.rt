@@ -28,9 +28,9 @@ use std::alloc::{AllocError, Global};
 /// ```
 #[derive(Drop)]
 pub struct EndlessPatterns<'c, 'r, 's> {
-    /// What the ids of the catalog stand for.
+    /// The ids of the catalog, with what they stand for.
     pub ids: &'c CatalogIds<'r, 's>,
-    /// What the ids refer to.
+    /// The trees that the ids refer to.
     _trees: &'r [Resource<&'s str>],
     indices: Indices<'s>,
     /// At the index of each pattern, whether its references never end.
@@ -43,8 +43,8 @@ impl<'c, 'r, 's> EndlessPatterns<'c, 'r, 's> {
     ghost use Rattle.lint_nodes.specs.Catalog.{AreDeclaredIn};
     ghost use Rattle.lint_nodes.specs.EndlessView.{ids_of};
 
-    /// Those of the catalog that has these ids, whose messages and terms are declared in these
-    /// trees. It takes time in proportion to the trees.
+    /// The endless patterns of the catalog that has these ids, whose messages and terms are
+    /// declared in these trees. It takes time in proportion to the trees.
     ///
     /// # Errors
     /// [`AllocError`] if memory runs out; nothing is kept.

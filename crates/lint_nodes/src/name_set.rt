@@ -12,7 +12,7 @@ use std::collections::HashSet;
 pub struct Names<'s> {
     /// The names.
     pub list: Vec<&'s str>,
-    /// The same, to look them up.
+    /// The names as a set, to look them up.
     set: HashSet<&'s str>,
 }
 

@@ -50,7 +50,7 @@ pub fn pattern_occurrences<'a, 's, 't>(
     Ok(Found { occurrences, rest })
 }
 
-/// What follows a pattern without elements, of which there is nothing in a tree: blank.
+/// The rest after a pattern without elements, which is only blank and isn't in a tree.
 pub fn empty_pattern_rest(text: &[u8]) -> &[u8]
     requires { IsPatternAt text.now no_elements }
     ensures { pattern_read text.now ≡ got no_elements result.now }

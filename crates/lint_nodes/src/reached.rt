@@ -1,4 +1,4 @@
-//! What references reach.
+//! The messages and variables that references reach.
 #![tactic(auto)]
 
 ghost use Rattle.std.specs.Prelude.{[], OnOk, option_map};
@@ -25,7 +25,7 @@ pub struct Reached<'s> {
 }
 
 impl<'s> Reached<'s> {
-    /// None. It doesn't allocate.
+    /// No messages and no variables. It doesn't allocate.
     pub fn new(alloc: Global) -> Self
         ensures { HasReached result [] [] }
     {

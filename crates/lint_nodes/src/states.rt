@@ -1,14 +1,14 @@
-//! What is known of the nodes of a graph.
+//! The states of the nodes of a graph.
 #![tactic(auto)]
 
 ghost use Rattle.std.specs.Prelude.{◌≡◌, ◌+◌, ◌^◌, ◌<◌, length, IfSome, slice_get};
 ghost use Rattle.lint_nodes.specs.Graph.{edges, graph_of};
 ghost use Rattle.lint_nodes.specs.Path.{AreNodes, is_endless, is_new, marked};
 
-/// What is known of a node.
+/// The state of a node: whether its ways end, as far as that is known.
 #[derive(Clone, Copy)]
 pub enum State {
-    /// Nothing yet.
+    /// Nothing is known of it yet.
     New,
     /// It is on the path that is looked at.
     Open,

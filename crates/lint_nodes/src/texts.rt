@@ -1,4 +1,4 @@
-//! What follows the texts of a pattern.
+//! The rest after the texts of a pattern.
 #![tactic(auto, using(fluent_tokens::proofs::Counted::cuts))]
 
 ghost use Rattle.std.specs.Prelude.{◌≡◌};
@@ -8,8 +8,8 @@ use crate::words::skip;
 use fluent_tokens as words;
 use memchr::memchr2;
 
-/// What follows the texts at the front, from within a line on: the next placeable, or the end of
-/// the pattern.
+/// The rest after the texts at the front, from within a line on: it begins with the next placeable,
+/// or at the end of the pattern.
 pub fn after_texts(text: &[u8]) -> &[u8]
     ensures { result.now ≡ rests.after_texts text.now }
 {
@@ -27,7 +27,7 @@ pub fn after_texts(text: &[u8]) -> &[u8]
     skip(rest, rest.len())
 }
 
-/// The same, from the start of a line on.
+/// The rest after the texts at the front, from the start of a line on.
 fn after_lines(text: &[u8]) -> &[u8]
     ensures { result.now ≡ rests.after_lines text.now }
 {

@@ -212,7 +212,8 @@ fn push_named<'a, 's, 't>(
     Ok(rest)
 }
 
-/// Of the value of a named argument: a literal belongs to the node of the call.
+/// Adds the occurrences in the value of a named argument. A literal belongs to the node of the
+/// call.
 #[cycle(walk)]
 fn push_value<'a, 's, 't>(
     value: &'a InlineExpression<&'s str>,
@@ -229,7 +230,7 @@ fn push_value<'a, 's, 't>(
     }
 }
 
-/// What follows the attribute of a reference, if it has one.
+/// The rest after the attribute of a reference, if it has one.
 fn after_attribute<'t>(attribute: &Option<Identifier<&str>>, text: &'t [u8]) -> &'t [u8]
     ensures { result.now ≡ rests.after_attribute (option_map name_of attribute.now) text.now }
 {

@@ -1,4 +1,4 @@
-//! What follows the words at the front of a text.
+//! The rest after the tokens at the front of a text.
 #![tactic(auto, using(fluent_tokens::proofs::Counted::cuts))]
 
 ghost use Rattle.std.specs.Prelude.{◌≡◌, drop, length, if◌then◌else◌};
@@ -7,21 +7,21 @@ ghost use Rattle.lint_nodes.specs.Rests as rests;
 
 use fluent_tokens as words;
 
-/// What follows the first bytes, if there are so many.
+/// The rest after the first `count` bytes, which is empty if there are fewer.
 pub fn skip(text: &[u8], count: usize) -> &[u8]
     ensures { result.now ≡ drop count text.now }
 {
     &text[count.min(text.len())..]
 }
 
-/// What follows blank.
+/// The rest after blank.
 pub fn skip_blank(text: &[u8]) -> &[u8]
     ensures { result.now ≡ w.skip_blank text.now }
 {
     &text[words::blank_len(text)..]
 }
 
-/// What follows blank, an optional comma and blank.
+/// The rest after blank, an optional comma and blank.
 pub fn skip_separator(text: &[u8]) -> &[u8]
     ensures { result.now ≡ w.skip_separator text.now }
 {
@@ -33,21 +33,22 @@ pub fn skip_separator(text: &[u8]) -> &[u8]
     }
 }
 
-/// What a placeable or call arguments hold, from their sign on.
+/// The inside of a placeable or of call arguments, with the text after it: the rest after their
+/// sign and blank.
 pub fn within(text: &[u8]) -> &[u8]
     ensures { result.now ≡ rests.within text.now }
 {
     skip_blank(skip(text, 1))
 }
 
-/// What follows blank and a sign.
+/// The rest after blank and a sign.
 pub fn after_sign(text: &[u8]) -> &[u8]
     ensures { result.now ≡ rests.after_sign text.now }
 {
     skip(skip_blank(text), 1)
 }
 
-/// What follows a name.
+/// The rest after a name.
 pub fn after_name<'t>(text: &'t [u8], name: &str) -> &'t [u8]
     ensures { result.now ≡ drop (length name.now) text.now }
 {
@@ -68,7 +69,7 @@ pub fn key_of_variant(text: &[u8]) -> &[u8]
     within(skip_mark(text))
 }
 
-/// What follows the mark of a default variant, if it stands here.
+/// The rest after the mark of a default variant, if there is one at the front.
 pub fn skip_mark(text: &[u8]) -> &[u8]
     ensures { result.now ≡ (if w.begins_with w.asterisk text.now then drop 1 text.now else text.now) }
 {

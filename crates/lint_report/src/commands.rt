@@ -71,12 +71,12 @@ fn command_name(severity: Severity) -> &'static str
 enum Part {
     /// The value of a property, as that of `file`.
     Property,
-    /// What is shown.
+    /// The message, which is shown.
     Message,
 }
 
 impl Part {
-    /// What is written for a character that this part can't have as it is.
+    /// The escape of a character that this part can't have as it is.
     fn escape(self, c: char) -> Option<&'static str>
         ensures escaped { IfSome result (λ escape. (c < 128) × (escape.now ≡ part_byte self c)) }
         ensures plain { IfNone result (part_byte self c ≡ c ∷ []) }

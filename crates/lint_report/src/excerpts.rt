@@ -1,4 +1,4 @@
-//! What is shown of a line: at most 120 characters of it, around a finding.
+//! The part of a line that is shown: at most 120 characters of it, around a finding.
 
 ghost use Rattle.std.specs.Prelude.{◌≡◌};
 ghost use Rattle.lint_report.specs.Excerpts.{IsEnd, IsFront, IsWindow, is_at_line_end};
@@ -13,7 +13,7 @@ pub(crate) struct Excerpt<'a> {
     pub(crate) is_cut: bool,
 }
 
-/// What is shown of a line.
+/// The part of a line that is shown: before a finding, and from the finding on.
 #[derive(Clone, Copy)]
 pub(crate) struct Window<'a> {
     pub(crate) before: Excerpt<'a>,
@@ -27,8 +27,8 @@ const SHOWN: usize = 120;
 const SHOWN_AFTER: usize = 60;
 
 impl<'a> Window<'a> {
-    /// What is shown of a line, of which `front` is before a finding, and `rest` is the text from
-    /// the finding on.
+    /// The part of a line that is shown, of which `front` is before a finding, and `rest` is the
+    /// text from the finding on.
     pub(crate) fn around(front: &'a str, rest: &'a str) -> Window<'a>
         ensures { IsWindow front.now rest.now result }
     {

@@ -51,7 +51,7 @@ fn push_summary_line(text: &mut String, summary: &Summary) -> Result<(), AllocEr
     text.push_str("\n")
 }
 
-/// What a number of messages is followed by.
+/// The word after a number of messages, with a space before it.
 fn message_word(count: usize) -> &'static str
     ensures { messages_text count ≡ decimal count ++ result.now }
 {
