@@ -87,19 +87,19 @@ unfolding clap_on_literals program_app
 no_value = refl
 
 a_lint : command_of false (codes "lint" ∷ codes "a" ∷ [])
-    ≡ Some (lint (record { references = []; functions = []; ignored = text_codes; locale = None; notes = false; counts = false; strict = false; format = text; files = codes "a" ∷ [] }))
+    ≡ Some (lint (record { references = []; functions = codes "DATETIME" ∷ []; ignored = text_codes; locale = None; notes = false; counts = false; strict = false; format = text; files = codes "a" ∷ [] }))
 unfolding clap_on_literals program_app
 a_lint = refl
 
 a_lint_of_the_input : command_of false (codes "lint" ∷ codes "--strict" ∷ codes "-" ∷ [])
-    ≡ Some (lint_input (record { references = []; functions = []; ignored = text_codes; locale = None; notes = false; counts = false; strict = true; format = text; files = codes "-" ∷ [] }))
+    ≡ Some (lint_input (record { references = []; functions = codes "DATETIME" ∷ []; ignored = text_codes; locale = None; notes = false; counts = false; strict = true; format = text; files = codes "-" ∷ [] }))
 unfolding clap_on_literals program_app
 a_lint_of_the_input = refl
 
 a_lint_with_options : command_of false (codes "lint" ∷ codes "--reference" ∷ codes "r1" ∷ codes "a" ∷ codes "--notes" ∷ codes "--function=F" ∷ codes "--reference=r2" ∷ codes "--strict" ∷ codes "--locale" ∷ codes "pl_PL.UTF-8" ∷ codes "--function" ∷ codes "G" ∷ codes "--format" ∷ codes "json" ∷ codes "b" ∷ [])
     ≡ Some (lint (record {
       references = codes "r1" ∷ codes "r2" ∷ [];
-      functions = codes "F" ∷ codes "G" ∷ [];
+      functions = codes "F" ∷ codes "G" ∷ codes "DATETIME" ∷ [];
       ignored = text_codes;
       locale = Some (codes "pl_PL.UTF-8");
       notes = true;
@@ -112,22 +112,22 @@ unfolding clap_on_literals program_app
 a_lint_with_options = refl
 
 in_colours : command_of false (codes "lint" ∷ codes "--color=always" ∷ codes "a" ∷ [])
-    ≡ Some (lint (record { references = []; functions = []; ignored = text_codes; locale = None; notes = false; counts = false; strict = false; format = terminal; files = codes "a" ∷ [] }))
+    ≡ Some (lint (record { references = []; functions = codes "DATETIME" ∷ []; ignored = text_codes; locale = None; notes = false; counts = false; strict = false; format = terminal; files = codes "a" ∷ [] }))
 unfolding clap_on_literals program_app
 in_colours = refl
 
 on_a_screen : command_of true (codes "lint" ∷ codes "a" ∷ [])
-    ≡ Some (lint (record { references = []; functions = []; ignored = text_codes; locale = None; notes = false; counts = false; strict = false; format = terminal; files = codes "a" ∷ [] }))
+    ≡ Some (lint (record { references = []; functions = codes "DATETIME" ∷ []; ignored = text_codes; locale = None; notes = false; counts = false; strict = false; format = terminal; files = codes "a" ∷ [] }))
 unfolding clap_on_literals program_app
 on_a_screen = refl
 
 never_on_a_screen : command_of true (codes "lint" ∷ codes "--color=never" ∷ codes "a" ∷ [])
-    ≡ Some (lint (record { references = []; functions = []; ignored = text_codes; locale = None; notes = false; counts = false; strict = false; format = text; files = codes "a" ∷ [] }))
+    ≡ Some (lint (record { references = []; functions = codes "DATETIME" ∷ []; ignored = text_codes; locale = None; notes = false; counts = false; strict = false; format = text; files = codes "a" ∷ [] }))
 unfolding clap_on_literals program_app
 never_on_a_screen = refl
 
 no_colours_in_json : command_of false (codes "lint" ∷ codes "--color" ∷ codes "always" ∷ codes "--format" ∷ codes "json" ∷ codes "a" ∷ [])
-    ≡ Some (lint (record { references = []; functions = []; ignored = text_codes; locale = None; notes = false; counts = false; strict = false; format = json; files = codes "a" ∷ [] }))
+    ≡ Some (lint (record { references = []; functions = codes "DATETIME" ∷ []; ignored = text_codes; locale = None; notes = false; counts = false; strict = false; format = json; files = codes "a" ∷ [] }))
 unfolding clap_on_literals program_app
 no_colours_in_json = refl
 
@@ -142,7 +142,7 @@ no_such_format = refl
 codes_to_ignore : command_of false (codes "lint" ∷ codes "--ignore" ∷ codes "untranslated" ∷ codes "a" ∷ codes "--ignore=no-value" ∷ [])
     ≡ Some (lint (record {
       references = [];
-      functions = [];
+      functions = codes "DATETIME" ∷ [];
       ignored = codes "untranslated" ∷ codes "no-value" ∷ text_codes;
       locale = None;
       notes = false;
@@ -157,7 +157,7 @@ codes_to_ignore = refl
 codes_with_commas : command_of false (codes "lint" ∷ codes "--ignore" ∷ codes "untranslated,no-value" ∷ codes "a" ∷ codes "--ignore=syntax" ∷ [])
     ≡ Some (lint (record {
       references = [];
-      functions = [];
+      functions = codes "DATETIME" ∷ [];
       ignored = codes "untranslated" ∷ codes "no-value" ∷ codes "syntax" ∷ text_codes;
       locale = None;
       notes = false;
@@ -173,7 +173,7 @@ codes_with_commas = refl
 codes_to_select : command_of false (codes "lint" ∷ codes "--select" ∷ codes "untranslated,no-value" ∷ codes "--select" ∷ codes "syntax" ∷ codes "a" ∷ [])
     ≡ Some (lint (record {
       references = [];
-      functions = [];
+      functions = codes "DATETIME" ∷ [];
       ignored = codes "byte-order-mark" ∷ codes "duplicate-id" ∷ codes "unknown-message" ∷ codes "unknown-term" ∷ codes "unknown-attribute" ∷ codes "no-default"
           ∷ codes "cyclic-reference" ∷ codes "unknown-function" ∷ codes "duplicate-attribute" ∷ codes "duplicate-variant" ∷ codes "invalid-escape"
           ∷ codes "unknown-option" ∷ codes "missing-category" ∷ codes "placeable-in-literal" ∷ codes "unknown-term-argument"
@@ -201,7 +201,7 @@ codes_to_select = refl
 the_group_to_select : command_of false (codes "lint" ∷ codes "--select=texts" ∷ codes "a" ∷ [])
     ≡ Some (lint (record {
       references = [];
-      functions = [];
+      functions = codes "DATETIME" ∷ [];
       ignored = codes "syntax" ∷ codes "byte-order-mark" ∷ codes "duplicate-id" ∷ codes "unknown-message" ∷ codes "unknown-term" ∷ codes "unknown-attribute"
           ∷ codes "no-value" ∷ codes "no-default" ∷ codes "cyclic-reference" ∷ codes "unknown-function" ∷ codes "duplicate-attribute"
           ∷ codes "duplicate-variant" ∷ codes "invalid-escape" ∷ codes "unknown-option" ∷ codes "missing-category" ∷ codes "placeable-in-literal"
@@ -252,7 +252,7 @@ unfolding clap_on_literals program_app finding_codes
 no_such_code = refl
 
 counts_of_a_reference : command_of false (codes "lint" ∷ codes "--counts" ∷ codes "--reference" ∷ codes "r" ∷ codes "a" ∷ [])
-    ≡ Some (lint (record { references = codes "r" ∷ []; functions = []; ignored = text_codes; locale = None; notes = false; counts = true; strict = false; format = text; files = codes "a" ∷ [] }))
+    ≡ Some (lint (record { references = codes "r" ∷ []; functions = codes "DATETIME" ∷ []; ignored = text_codes; locale = None; notes = false; counts = true; strict = false; format = text; files = codes "a" ∷ [] }))
 unfolding clap_on_literals program_app
 counts_of_a_reference = refl
 
@@ -261,7 +261,7 @@ unfolding clap_on_literals program_app
 counts_of_nothing = refl
 
 a_name_with_signs : command_of false (codes "lint" ∷ codes "--function" ∷ codes "A_1-B" ∷ codes "a" ∷ [])
-    ≡ Some (lint (record { references = []; functions = codes "A_1-B" ∷ []; ignored = text_codes; locale = None; notes = false; counts = false; strict = false; format = text; files = codes "a" ∷ [] }))
+    ≡ Some (lint (record { references = []; functions = codes "A_1-B" ∷ codes "DATETIME" ∷ []; ignored = text_codes; locale = None; notes = false; counts = false; strict = false; format = text; files = codes "a" ∷ [] }))
 unfolding clap_on_literals program_app
 a_name_with_signs = refl
 
@@ -298,7 +298,7 @@ the_project_of_the_folder : command_of false (codes "lint" ∷ [])
     ≡ Some (lint_project (record {
       project = record { references = []; files = []; locales = []; variables = [] };
       only = [];
-      functions = [];
+      functions = codes "DATETIME" ∷ [];
       ignored = text_codes;
       baseline = None;
       written = None;
@@ -313,7 +313,7 @@ a_project_with_options : command_of false (codes "lint" ∷ codes "l10n.toml" �
     ≡ Some (lint_project (record {
       project = record { references = []; files = codes "l10n.toml" ∷ []; locales = codes "de" ∷ codes "pl" ∷ []; variables = (codes "a", codes "b") ∷ [] };
       only = codes "de" ∷ [];
-      functions = [];
+      functions = codes "DATETIME" ∷ [];
       ignored = text_codes;
       baseline = None;
       written = None;
@@ -328,7 +328,7 @@ a_project_with_a_baseline : command_of false (codes "lint" ∷ codes "--baseline
     ≡ Some (lint_project (record {
       project = record { references = []; files = []; locales = []; variables = [] };
       only = [];
-      functions = [];
+      functions = codes "DATETIME" ∷ [];
       ignored = text_codes;
       baseline = Some (codes "old.jsonl");
       written = Some (codes "new.jsonl");

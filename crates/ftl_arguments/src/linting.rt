@@ -147,7 +147,7 @@ fn known_functions<'words>(
 /// # Errors
 /// [`AllocError`] if memory runs out; nothing is kept.
 fn with_dates<'words>(functions: Vec<&'words str>) -> Result<Vec<&'words str>, AllocError>
-    ensures { IfOk result (λ known. texts known.items ≡ texts functions.items ++ codes "DATETIME" ∷ []) }
+    ensures { IfOk result (λ known. texts known.items ≡ texts functions.entry.items ++ codes "DATETIME" ∷ []) }
 {
     let mut known = functions;
     known.push(DATETIME)?;
