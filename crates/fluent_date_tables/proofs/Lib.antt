@@ -1,4 +1,5 @@
 pub mod Steps
 pub mod PartSteps
+pub mod SkippedParts
 pub mod Families
 pub mod Letters

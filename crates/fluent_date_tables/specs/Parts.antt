@@ -17,6 +17,11 @@ abbrev pub after_found : Option (Bor Text) → Text
 after_found None = []
 after_found (Some text) = text.now
 
+-- what is left of a text without this number of its parts
+abbrev pub skipped : Text → ℕ → Text
+skipped text zero = text
+skipped text (suc number) = skipped (after text) number
+
 -- the part of this number, the empty text if there is none
 abbrev pub part : Text → ℕ → Text
 part text zero = before text

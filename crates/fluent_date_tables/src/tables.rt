@@ -173,13 +173,12 @@ pub(crate) fn row_among(families: &[Family], text: &[u8]) -> Option<u16>
 fn first_row(families: &[Family], text: &[u8]) -> Option<u16>
     ensures { result ≡ first_row families.now text.now }
 {
-    match families {
-        [] => None,
-        [family, others @ ..] => match row_in(family, text) {
-            Some(row) => Some(row),
-            None => first_row(others, text),
-        },
+    for family in families {
+        if let Some(row) = row_in(family, text) {
+            return Some(row);
+        }
     }
+    None
 }
 
 /// The row of the longest tag of a language that a text begins with.
@@ -197,13 +196,14 @@ fn row_in(family: &Family, text: &[u8]) -> Option<u16>
 fn after<'t>(tag: &[u8], text: &'t [u8]) -> Option<&'t [u8]>
     ensures { found result ≡ after_tag tag.now text.now }
 {
-    match tag {
-        [] => Some(text),
-        [byte, tag @ ..] => match text {
-            [other, text @ ..] if *byte == folded(*other) => after(tag, text),
-            _ => None,
-        },
+    let mut rest = text;
+    for &byte in tag {
+        match rest {
+            [other, more @ ..] if byte == folded(*other) => rest = more,
+            _ => return None,
+        }
     }
+    Some(rest)
 }
 
 /// The row of the longest tag of a language that a text has, of which this is after the language.

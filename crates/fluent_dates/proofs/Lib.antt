@@ -11,4 +11,5 @@ mod Rows
 pub mod SetOptions
 pub mod ShownPlaces
 pub mod Spellings
+pub mod Streamed
 pub mod WritingSteps

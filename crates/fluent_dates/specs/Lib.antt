@@ -12,3 +12,4 @@ pub mod Shown
 pub mod Equivalent
 pub mod Exact
 pub mod Only
+pub mod Streaming

@@ -5,7 +5,8 @@ ghost use Rattle.fluent_dates.specs.Writing.{date_text};
 ghost use Rattle.fluent_dates.specs.Written.{Adds, IsText};
 
 use crate::names::locale_for;
-use crate::patterns::pattern_of;
+use crate::patterns::{date_pattern, pattern_of};
+use crate::streaming::push_pattern;
 use crate::writing::push_written;
 use fluent_date::FluentDateTime;
 use fluent_date_tables::Row;
@@ -59,6 +60,7 @@ impl LocaleDates {
     ///
     /// # Errors
     /// [`AllocError`] if memory runs out; `text` may hold a part of it then.
+    #[tactic(auto, using(crate::proofs::Streamed::pattern_written))]
     pub fn push_text(
         &self,
         alloc: Global,
@@ -67,6 +69,9 @@ impl LocaleDates {
     ) -> Result<(), AllocError>
         ensures { Adds result text.old text.new (date_text self.now.row.now value.now) }
     {
+        if let Some(pattern) = date_pattern(self.row, value) {
+            return push_pattern(alloc, text, self.row, pattern, value);
+        }
         let items = pattern_of(alloc, self.row, value)?;
         push_written(text, self.row, &items, value)
     }

@@ -15,7 +15,7 @@ pub(crate) enum Item {
 
 /// The letter of the field that a character asks for outside of quotes. `r`, a month in small Roman
 /// numbers, is for Hawaiian alone.
-fn letter_of(c: char) -> Option<u8>
+pub(crate) fn letter_of(c: char) -> Option<u8>
     ensures { result ≡ letter_of c }
 {
     match u8::try_from(u32::from(c)) {
@@ -26,13 +26,13 @@ fn letter_of(c: char) -> Option<u8>
 
 /// How far a pattern is read.
 #[derive(Clone, Copy)]
-struct Reading {
+pub(crate) struct Reading {
     /// Whether a quote is open.
-    quoted: bool,
+    pub(crate) quoted: bool,
     /// Whether the last character was a quote, and a quote after it is text.
-    after_quote: bool,
+    pub(crate) after_quote: bool,
     /// The field whose letters were read last.
-    field: Field,
+    pub(crate) field: Field,
 }
 
 /// Adds a field to items, if it is one.
@@ -58,6 +58,13 @@ fn push_quote(items: &mut Vec<Item>, is_text: bool) -> Result<(), AllocError>
 }
 
 impl Reading {
+    /// Before the first character.
+    pub(crate) const START: Reading = Reading {
+        quoted: false,
+        after_quote: false,
+        field: NONE,
+    };
+
     /// Reads a quote. One right after a quote is text.
     fn quote(self, items: &mut Vec<Item>) -> Result<Reading, AllocError>
         ensures next { IfOk result (λ next. next ≡ next_reading self 39) }
@@ -122,11 +129,7 @@ pub(crate) fn items_of(alloc: Global, pattern: &str) -> Result<Vec<Item>, AllocE
     ensures { IfOk result (λ items. items.items ≡ items_of pattern.now) }
 {
     let mut items = Vec::with_capacity(alloc, 24)?;
-    let mut reading = Reading {
-        quoted: false,
-        after_quote: false,
-        field: NONE,
-    };
+    let mut reading = Reading::START;
     for c in pattern.chars() {
         reading = reading.step(&mut items, c)?;
     }

@@ -24,6 +24,7 @@ mod names;
 mod numbers;
 mod patterns;
 mod places;
+mod streaming;
 mod value;
 mod wanted;
 mod writing;

@@ -1,5 +1,6 @@
 //! The pattern of a locale for options.
-ghost use Rattle.std.specs.Prelude.{◌≡◌, false, IfOk};
+ghost use Rattle.std.specs.Prelude.{◌≡◌, false, IfOk, IfSome};
+ghost use Rattle.fluent_dates.specs.Items.{items_of};
 ghost use Rattle.fluent_dates.specs.Patterns.{component_pattern, is_hour, pattern_of, recounted, restyled, style_pattern, styled_both, with_hours, with_month};
 
 use crate::best::best_pattern;
@@ -147,6 +148,19 @@ fn component_pattern(
         with_hours(alloc, &items, hour_letter(cycle_of(row, options)))
     } else {
         Ok(items)
+    }
+}
+
+/// The text that is the pattern of a locale for a value, if the value is shown by a style of dates
+/// alone.
+#[tactic(auto, using(crate::proofs::Streamed::date_alone))]
+pub(crate) fn date_pattern(row: &Row, value: &FluentDateTime) -> Option<&'static str>
+    ensures { IfSome result (λ pattern. items_of pattern.now ≡ pattern_of row.now value.now) }
+{
+    let options = of_value(value);
+    match (options.date_style, options.time_style) {
+        (Some(style), None) => Some(date_style(row, style)),
+        _ => None,
     }
 }
 

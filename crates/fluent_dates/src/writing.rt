@@ -375,7 +375,7 @@ fn push_of_time(
 }
 
 /// Writes a field. What a value has nothing for is left out.
-fn push_field(
+pub(crate) fn push_field(
     text: &mut String,
     row: &Row,
     items: &[Item],
