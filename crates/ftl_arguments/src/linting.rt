@@ -18,7 +18,7 @@ use lint_report::Format as ReportFormat;
 use std::alloc::Global;
 
 /// The codes that findings have.
-pub(crate) const CODES: [&str; 66] = [
+pub(crate) const CODES: [&str; 67] = [
     "syntax",
     "byte-order-mark",
     "duplicate-id",
@@ -75,6 +75,7 @@ pub(crate) const CODES: [&str; 66] = [
     "changed-number",
     "edge-space",
     "double-space",
+    "doubled-word",
     "final-punctuation",
     "three-dots",
     "unpaired-quote",
