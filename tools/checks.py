@@ -16,7 +16,7 @@ import tempfile
 TOP = pathlib.Path(__file__).resolve().parent.parent
 CODES = {
     "access-key-not-in-label", "broken-entity", "broken-tag", "changed-number", "changed-placeholder", "changed-style",
-    "changed-url", "control-character", "double-space", "edge-space", "empty-text", "final-punctuation",
+    "changed-url", "control-character", "double-space", "doubled-word", "edge-space", "empty-text", "final-punctuation",
     "long-access-key", "long-key", "long-text", "missing-element", "missing-l10n-name", "missing-variable",
     "mixed-scripts", "placeable-in-literal", "plural-dropped", "replacement-character", "straight-quote",
     "term-as-text", "three-dots", "unbalanced-direction", "unbalanced-element", "unknown-category", "unknown-element",

@@ -52,8 +52,7 @@ fn part_%(number)d() -> &'static [Explanation]
     &PART_%(number)d
 }
 
-static PART_%(number)d: [Explanation; %(length)d] = [
-%(rows)s];
+static PART_%(number)d: [Explanation; %(length)d] = [%(rows)s];
 '''
 
 
@@ -91,14 +90,21 @@ def literal(text: str) -> str:
     return f'"{escaped}"'
 
 
-def row(code: str, section: str) -> str:
-    """A code with its explanation, as a row of a table."""
-    return f"    (\n        {literal(code)},\n        {literal(explanation(code, section))},\n    ),\n"
+def row(code: str, section: str) -> tuple[str, str]:
+    """A code with its explanation, as literals."""
+    return literal(code), literal(explanation(code, section))
 
 
-def table(number: int, part: list[str]) -> str:
+def laid(part: list[tuple[str, str]]) -> str:
+    """Rows of a table, as `rt fmt` lays them: one alone stands on the line of its brackets."""
+    if len(part) == 1:
+        return "(\n    %s,\n    %s,\n)" % part[0]
+    return "\n" + "".join("    (\n        %s,\n        %s,\n    ),\n" % one for one in part)
+
+
+def table(number: int, part: list[tuple[str, str]]) -> str:
     """A table of these rows."""
-    return TABLE % {"number": number, "length": len(part), "rows": "".join(part)}
+    return TABLE % {"number": number, "length": len(part), "rows": laid(part)}
 
 
 def written() -> str:

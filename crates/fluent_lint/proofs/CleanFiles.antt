@@ -10,7 +10,7 @@ use Rattle.lint_findings.specs.Comparison.{Difference, missing_message, obsolete
 use Rattle.fluent_meaning.specs.Fallback.{with_attribute}
 use Rattle.fluent_plurals.specs.declared.plurals.LanguagePlurals.{LanguagePlurals}
 use Rattle.lint_findings.specs.ComparisonFindings.{difference_finding, difference_findings, loss_finding, loss_findings, message_findings, missing_findings, spotted_finding, texts_beside, texts_findings}
-use Rattle.lint_findings.specs.Doubts.{Doubt, Spotted, broken_entity, broken_tag, changed_number, changed_style, changed_url, double_space, edge_space, empty_text, empty_variant, long_access_key, long_key, long_text, lost_key, lost_placeholder, lost_sign, missing_element, missing_name, new_placeholder, straight_quote, three_dots, unclosed, unknown_element, unknown_name, unopened, unpaired_quote}
+use Rattle.lint_findings.specs.Doubts.{Doubt, Spotted, broken_entity, broken_tag, changed_number, changed_style, changed_url, double_space, doubled_word, edge_space, empty_text, empty_variant, long_access_key, long_key, long_text, lost_key, lost_placeholder, lost_sign, missing_element, missing_name, new_placeholder, straight_quote, three_dots, unclosed, unknown_element, unknown_name, unopened, unpaired_quote}
 use Rattle.lint_findings.specs.Losses.{Loss, dropped_plural, lacking_variant, losses, written_term}
 use Rattle.lint_findings.specs.Occurrences.{PatternPlace, entry_places}
 use Rattle.lint_findings.specs.Pairs.{on_texts}
@@ -111,6 +111,7 @@ doubt_clean source owner at p (new_placeholder x) = refl
 doubt_clean source owner at p (changed_number x) = refl
 doubt_clean source owner at p (edge_space e) = refl
 doubt_clean source owner at p double_space = refl
+doubt_clean source owner at p doubled_word = refl
 doubt_clean source owner at p three_dots = refl
 doubt_clean source owner at p straight_quote = refl
 doubt_clean source owner at p (unpaired_quote x) = refl

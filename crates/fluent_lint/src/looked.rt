@@ -26,7 +26,7 @@ pub struct Looked {
 const PLURAL_CODES: [&str; 3] = ["missing-category", "unknown-category", "unused-category"];
 
 /// The codes of findings about how messages differ.
-const DIFFERENCE_CODES: [&str; 34] = [
+const DIFFERENCE_CODES: [&str; 35] = [
     "missing-value",
     "missing-attribute",
     "obsolete-value",
@@ -55,6 +55,7 @@ const DIFFERENCE_CODES: [&str; 34] = [
     "changed-number",
     "edge-space",
     "double-space",
+    "doubled-word",
     "final-punctuation",
     "three-dots",
     "unpaired-quote",

@@ -184,7 +184,7 @@ codes_to_select : command_of false (codes "lint" ∷ codes "--select" ∷ codes 
           ∷ codes "variant-lacks-variable" ∷ codes "plural-dropped" ∷ codes "term-as-text" ∷ codes "broken-tag" ∷ codes "unbalanced-element"
           ∷ codes "unknown-element" ∷ codes "missing-element" ∷ codes "missing-l10n-name" ∷ codes "unknown-l10n-name" ∷ codes "broken-entity"
           ∷ codes "long-access-key" ∷ codes "long-key" ∷ codes "changed-style" ∷ codes "access-key-not-in-label" ∷ codes "changed-url"
-          ∷ codes "changed-placeholder" ∷ codes "changed-number" ∷ codes "edge-space" ∷ codes "double-space" ∷ codes "final-punctuation"
+          ∷ codes "changed-placeholder" ∷ codes "changed-number" ∷ codes "edge-space" ∷ codes "double-space" ∷ codes "doubled-word" ∷ codes "final-punctuation"
           ∷ codes "three-dots" ∷ codes "unpaired-quote" ∷ codes "straight-quote" ∷ codes "empty-text" ∷ codes "long-text" ∷ codes "missing-file"
           ∷ codes "missing-locale" ∷ codes "obsolete-file" ∷ codes "unused-ignore" ∷ [];
       locale = None;

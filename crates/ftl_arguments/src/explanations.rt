@@ -18,6 +18,7 @@ pub(crate) fn text_of(code: &str) -> &'static str {
         .or_else(|| text_in(part_9(), code))
         .or_else(|| text_in(part_10(), code))
         .or_else(|| text_in(part_11(), code))
+        .or_else(|| text_in(part_12(), code))
         .unwrap_or("")
 }
 
@@ -1149,6 +1150,24 @@ A note of the group `texts`. Two spaces stand within a sentence.
 ",
     ),
     (
+        "doubled-word",
+        "doubled-word
+
+A note of the group `texts`. A word stands twice in a row. Take one of them out,
+unless the language says it twice.
+
+    $ cat doubled-word.ftl
+    end = Bis zum zum Ende
+    $ cat doubled-word-en.ftl
+    end = Up to the end
+    $ ftl lint --format line --select texts --reference doubled-word-en.ftl doubled-word.ftl
+    doubled-word.ftl:1:11: note: end: a word stands here twice [doubled-word]
+
+`--ignore doubled-word` leaves such findings out, and so does a comment
+`# lint-ignore: doubled-word` before the entry.
+",
+    ),
+    (
         "final-punctuation",
         "final-punctuation
 
@@ -1201,6 +1220,15 @@ A note of the group `texts`. A curly quote has no partner.
 `# lint-ignore: unpaired-quote` before the entry.
 ",
     ),
+];
+
+fn part_11() -> &'static [Explanation]
+    ensures { length result.now ≡ 6 }
+{
+    &PART_11
+}
+
+static PART_11: [Explanation; 6] = [
     (
         "straight-quote",
         "straight-quote
@@ -1219,15 +1247,6 @@ curly ones.
 `# lint-ignore: straight-quote` before the entry.
 ",
     ),
-];
-
-fn part_11() -> &'static [Explanation]
-    ensures { length result.now ≡ 6 }
-{
-    &PART_11
-}
-
-static PART_11: [Explanation; 6] = [
     (
         "empty-text",
         "empty-text
@@ -1332,9 +1351,17 @@ it.
 `# lint-ignore: obsolete-file` before the entry.
 ",
     ),
-    (
-        "unused-ignore",
-        "unused-ignore
+];
+
+fn part_12() -> &'static [Explanation]
+    ensures { length result.now ≡ 1 }
+{
+    &PART_12
+}
+
+static PART_12: [Explanation; 1] = [(
+    "unused-ignore",
+    "unused-ignore
 
 A warning. A comment leaves out findings of a code, and there are none. Remove
 the code from it, or correct its name.
@@ -1349,5 +1376,4 @@ the code from it, or correct its name.
 `--ignore unused-ignore` leaves such findings out, and so does a comment
 `# lint-ignore: unused-ignore` before the entry.
 ",
-    ),
-];
+)];

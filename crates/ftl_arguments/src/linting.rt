@@ -21,7 +21,7 @@ use std::alloc::{AllocError, Global};
 pub const DATETIME: &str = "DATETIME";
 
 /// The codes that findings have.
-pub(crate) const CODES: [&str; 66] = [
+pub(crate) const CODES: [&str; 67] = [
     "syntax",
     "byte-order-mark",
     "duplicate-id",
@@ -78,6 +78,7 @@ pub(crate) const CODES: [&str; 66] = [
     "changed-number",
     "edge-space",
     "double-space",
+    "doubled-word",
     "final-punctuation",
     "three-dots",
     "unpaired-quote",

@@ -40,8 +40,8 @@ Codes:
   missing-file, missing-locale, obsolete-file, unused-ignore
 
 Codes that are only reported if they are selected, one by one or all as 'texts':
-  changed-url, changed-placeholder, changed-number, edge-space, double-space, final-punctuation,
-  three-dots, unpaired-quote, straight-quote, empty-text, long-text
+  changed-url, changed-placeholder, changed-number, edge-space, double-space, doubled-word,
+  final-punctuation, three-dots, unpaired-quote, straight-quote, empty-text, long-text
 
 Example: ftl lint --reference locales/en locales/de";
 

@@ -262,12 +262,19 @@ fn is_quoting(alloc: Global, pattern: &Pattern<&str>) -> Result<bool, AllocError
         found ≡ list_any l.is_quoting (elements_nodes (elements_of pattern.now))) }
 {
     let nodes = pattern_nodes(alloc, pattern)?;
-    for node in &nodes {
+    Ok(are_quoting(&nodes))
+}
+
+/// Whether one of some nodes is a string literal with a placeable in quotes.
+pub fn are_quoting(nodes: &[Node<'_, '_>]) -> bool
+    ensures { result ≡ list_any l.is_quoting (nodes_of nodes.now) }
+{
+    for node in nodes {
         if let Node::Expression(InlineExpression::StringLiteral { value }) = node {
             if first_quoted(value).is_some() {
-                return Ok(true);
+                return true;
             }
         }
     }
-    Ok(false)
+    false
 }

@@ -38,6 +38,7 @@ mod words;
 mod written;
 
 pub use findings::missing_finding;
+pub use losses::has_quoted;
 pub use missing::missing_findings;
 pub use reference::Reference;
 pub use referred::{called_functions, referred_terms};

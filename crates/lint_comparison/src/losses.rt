@@ -8,7 +8,7 @@ ghost use Rattle.lint_findings.specs.Losses as l;
 ghost use Rattle.lint_nodes.specs.NodeView.{Adds};
 
 use crate::dropped::push_dropped;
-use crate::lacking::push_lacking;
+use crate::lacking::{are_quoting, push_lacking};
 use crate::loss::Loss;
 use crate::written::push_written;
 use fluent_ast::{Message, Pattern};
@@ -106,6 +106,17 @@ fn push_beside<'i, 's: 'i, 't: 'i>(
     push_lacking(alloc, nodes, &others, losses)?;
     push_dropped(alloc, plurals, message, nodes, &others, losses)?;
     push_written(alloc, reference, message, other, nodes, &others, losses)
+}
+
+/// Whether a string literal of a message has a placeable in quotes.
+///
+/// # Errors
+/// [`AllocError`] if memory runs out; nothing is kept.
+pub fn has_quoted(alloc: Global, message: &Message<&str>) -> Result<bool, AllocError>
+    ensures { IfOk result (λ has. has ≡ l.message_quotes (message_of message.now)) }
+{
+    let nodes = message_nodes(alloc, message)?;
+    Ok(are_quoting(&nodes))
 }
 
 /// The nodes of a message: of its value, and of its attributes.

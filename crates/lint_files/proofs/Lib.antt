@@ -3,3 +3,4 @@ pub mod EntryPushed
 pub mod TilesPushed
 pub mod JunkTiles
 pub mod Loops
+pub mod Unquoted

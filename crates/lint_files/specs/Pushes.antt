@@ -3,6 +3,8 @@ use Rattle.std.specs.Prelude.{◌≡◌, ◌-◌, Bool, List, [], ◌∷◌, ◌
 use Rattle.std.specs.Global.{Global}
 use Rattle.std.specs.Vec.Iter.{into_iter_items}
 use Rattle.fluent_grammar.specs.Tree as t
+use Rattle.fluent_ids.specs.IdsView.{ids_view}
+use Rattle.fluent_ids.specs.declared.ids.FluentIds.{FluentIds}
 use Rattle.fluent_plurals.specs.declared.plurals.LanguagePlurals.{LanguagePlurals}
 use Rattle.lint_entries.specs.CatalogView.{ids_in, reference_in}
 use Rattle.lint_entries.specs.declared.catalog.Catalog.{Catalog}
@@ -20,7 +22,7 @@ use Rattle.lint_findings.specs.declared.records.File.{File}
 use Rattle.lint_findings.specs.declared.records.Finding.{Finding}
 use Rattle.lint_findings.specs.DuplicateIds.{Declaration}
 use Rattle.lint_findings.specs.Finding as f
-use Rattle.lint_findings.specs.Findings.{Rules, is_copy, own_findings}
+use Rattle.lint_findings.specs.Findings.{Rules, is_copy, is_quoted, own_findings, unless_quoted}
 use Rattle.lint_findings.specs.UnusedTerms.{unused_findings}
 use Rattle.fluent_grammar.specs.Words.{Text}
 use Rattle.lint_findings.specs.PlaceView.{IsPlaceIn}
@@ -70,6 +72,11 @@ compared_findings rules placed = rules.compare placed.file.source.now (bare_entr
 
 abbrev pub AddsOwn : Rules → PlacedEntry → Vec Finding Global → Vec Finding Global → Type 0
 AddsOwn rules placed old new = Adds old new (own_of rules placed)
+
+-- these are left of findings of an entry, if placeables in quotes are right there
+abbrev pub AreUnquoted : FluentIds (Unit {0}) → t.Entry → Vec Finding Global → Vec Finding Global → Type 0
+AreUnquoted reference e old new =
+    map finding_view new.items ≡ unless_quoted (is_quoted (ids_view (Unit {0}) reference) e) (map finding_view old.items)
 
 -- whether it is a term that nothing refers to
 abbrev pub unused_of : Rules → PlacedEntry → List f.Finding

@@ -1,19 +1,21 @@
 //! The findings of a message or a term.
 #![tactic(auto)]
 
-ghost use Rattle.std.specs.Prelude.{◌≡◌, OnOk};
+ghost use Rattle.std.specs.Prelude.{◌≡◌, IfOk, OnOk, codes, map, true};
+ghost use Rattle.std.specs.Str.{bytes_eq};
 ghost use Rattle.fluent_ast.specs.Borrowed.{message_of};
 ghost use Rattle.fluent_grammar.specs.Tree as t;
 ghost use Rattle.fluent_ids.specs.IdsView.{ids_view};
 ghost use Rattle.lint_entries.specs.AttributePlaces.{bare_entry};
-ghost use Rattle.lint_files.specs.Pushes.{AddsComparison, AddsIfFirst, AddsOwn, AddsPlaced, AddsUnused, DeclaresPlaced, IsCatalogFor, IsPlaced};
+ghost use Rattle.lint_files.specs.Pushes.{AddsComparison, AddsIfFirst, AddsOwn, AddsPlaced, AddsUnused, AreUnquoted, DeclaresPlaced, IsCatalogFor, IsPlaced};
 ghost use Rattle.lint_files.specs.RulesView.{rules_view};
-ghost use Rattle.lint_findings.specs.Findings.{is_copy};
+ghost use Rattle.lint_findings.specs.Findings.{is_copy, is_quoted, unless_quoted};
+ghost use Rattle.lint_findings.specs.View.{finding_view};
 
 use crate::rules::Rules;
 use fluent_ast::{Entry, Message};
 use fluent_ids::GetEntry;
-use lint_comparison::is_same_message;
+use lint_comparison::{has_quoted, is_same_message};
 use lint_entries::{Catalog, Declarations, Location, entry_findings, push_found};
 use lint_findings::{CatalogIds, File, Finding, SourcePosition};
 use lint_nodes::declared_id;
@@ -76,7 +78,58 @@ fn push_own<'s>(
         placed.entry,
         placed.text,
     )?;
+    leave_quoted(alloc, rules.catalog.reference, placed.entry, &mut found)?;
     findings.append(&mut found)
+}
+
+/// Leaves out the findings of an entry that are of placeables in quotes, if its message of the
+/// reference has one, too.
+fn leave_quoted<'s>(
+    alloc: Global,
+    reference: &CatalogIds<'_, 's>,
+    entry: &Entry<&'s str>,
+    found: &mut Vec<Finding>,
+) -> Result<(), AllocError>
+    ensures { OnOk result (AreUnquoted reference.now (bare_entry entry.now) found.old found.new) }
+{
+    if found.is_empty() {
+        return Ok(());
+    }
+    if is_quoted(alloc, reference, entry)? {
+        keep_unquoted(found);
+    }
+    Ok(())
+}
+
+/// Leaves out the findings of placeables in quotes.
+fn keep_unquoted(found: &mut Vec<Finding>)
+    ensures { map finding_view found.new.items ≡ unless_quoted true (map finding_view found.old.items) }
+{
+    found.retain(|finding| !is_of_quoted(finding));
+}
+
+/// Whether a finding is of a placeable in quotes.
+fn is_of_quoted(finding: &Finding) -> bool
+    ensures { result ≡ bytes_eq (finding_view finding.now).code (codes "placeable-in-literal") }
+{
+    finding.code == "placeable-in-literal"
+}
+
+/// Whether the message of the reference has a placeable in quotes.
+fn is_quoted<'s>(
+    alloc: Global,
+    reference: &CatalogIds<'_, 's>,
+    entry: &Entry<&'s str>,
+) -> Result<bool, AllocError>
+    ensures { IfOk result (λ is. is ≡ is_quoted (ids_view _ reference.now) (bare_entry entry.now)) }
+{
+    match entry {
+        Entry::Message(message) => match reference.get_entry_message(message.id.name) {
+            Some(other) => has_quoted(alloc, other),
+            None => Ok(false),
+        },
+        _ => Ok(false),
+    }
 }
 
 /// The catalog of an entry, but without plural rules if the entry is a copy of the reference's

@@ -1,6 +1,8 @@
 -- A catalog with a clean report is flawless.
-use Rattle.std.proofs.Common.{◌≡◌, ◌∙◌, Bool, true, false, if◌then◌else◌, List, [], ◌∷◌, ◌++◌, map, Option, Some, None, refl, sym, subst}
-use Rattle.std.specs.Prelude.{is_some, drop, codes}
+use Rattle.std.proofs.Common.{◌≡◌, ◌∙◌, Bool, true, false, cond, if◌then◌else◌, List, [], ◌∷◌, ◌++◌, map, Option, Some, None, refl, sym, ap, subst}
+use Rattle.std.specs.Prelude.{is_some, drop, codes, not}
+use Rattle.std.specs.Cmp.Lexicographic.{same_text}
+use Rattle.std.specs.Str.{bytes_eq}
 use Rattle.std.specs.Option.{option_to_list}
 use Rattle.std.specs.List.{All, flat_map}
 use Rattle.std.proofs.lemmas.List.Elements.{All-nil, All-cons, All-head, All-tail, All-append}
@@ -29,7 +31,7 @@ use Rattle.lint_findings.proofs.NodeRemarks.{flaw_finding, node_findings_are}
 use Rattle.lint_findings.specs.EntryFindings.{endless_remark, finding_in, node_flaws, node_findings, nodes_findings, pattern_findings, attribute_findings, patterns_findings, first_place, pattern_places, entry_findings}
 use Rattle.lint_findings.specs.Files.{File}
 use Rattle.lint_findings.specs.DuplicateIds.{Declaration, duplicate_findings}
-use Rattle.lint_findings.specs.Findings.{Rules, FileFinding, FileTile, findings_in, tiles_in, sources, findings_of_tile, findings_of_tiles, declarations_of_tile, catalog_rules, translation_rules, known_functions, missing_messages, own_findings, plurals_for}
+use Rattle.lint_findings.specs.Findings.{Rules, FileFinding, FileTile, findings_in, tiles_in, sources, findings_of_tile, findings_of_tiles, declarations_of_tile, catalog_rules, translation_rules, known_functions, missing_messages, is_quoted, own_findings, plurals_for, unless_quoted}
 use Rattle.lint_findings.specs.PlaceLaws.{tile_entries}
 use Rattle.lint_findings.specs.ReportLaws.{program_ids, AreFunctions, IsHarmless, IsFlawless, harmful_codes, HasHarmlessCode, IsClean, CleanCatalogsAreFlawless, CleanTranslationsAreFlawless}
 use Rattle.lint_findings.proofs.EndlessPatterns.{endless_goes_on}
@@ -199,6 +201,23 @@ module _ (rules : Rules) where
     entry_is_harmless : (e : t.Entry) (s : Text) → Clean (entry_findings rules.ids rules.reference plurals source e s) → HasHarmless e
     entry_is_harmless e s h = patterns_are_harmless s [] (pattern_places e s) (entry_patterns e) h
 
+    -- what is left out if placeables in quotes are right is harmless
+    harmless_step : (f : Finding) (fs rest : List Finding) (b : Bool) → bytes_eq f.code (codes "placeable-in-literal") ≡ b → (Clean rest → Clean fs) →
+        Clean (cond (not b) (f ∷ rest) rest) → Clean (f ∷ fs)
+    harmless_step f fs rest true is later h =
+        let harmless : HasHarmlessCode f = ap (λ c. is_among c harmful_codes) (same_text f.code (codes "placeable-in-literal") (sym is)) in
+        All-cons HasHarmlessCode f fs harmless (later h)
+    harmless_step f fs rest false is later h =
+        All-cons HasHarmlessCode f fs (All-head HasHarmlessCode f rest h) (later (All-tail HasHarmlessCode f rest h))
+
+    harmless_left : (fs : List Finding) → Clean (unless_quoted true fs) → Clean fs
+    harmless_left [] h = h
+    harmless_left (f ∷ fs) h = harmless_step f fs (unless_quoted true fs) (bytes_eq f.code (codes "placeable-in-literal")) refl (harmless_left fs) h
+
+    without_quoted : (b : Bool) (fs : List Finding) → Clean (unless_quoted b fs) → Clean fs
+    without_quoted true fs h = harmless_left fs h
+    without_quoted false fs h = h
+
     middle : (xs ys zs : List Finding) → Clean (xs ++ (ys ++ zs)) → Clean ys
     middle xs ys zs h = all_left HasHarmlessCode ys zs (all_right HasHarmlessCode xs (ys ++ zs) h)
 
@@ -211,9 +230,13 @@ module _ (rules : Rules) where
   tile_is_harmless : (before : List Declaration) (file : File) (tile : Tile) → Clean (findings_of_tile rules before file tile) → TileIsHarmless tile
   tile_is_harmless before file (junk_tile at s refusal) h = tt
   tile_is_harmless before file (entry_tile at s (t.message m)) h =
-      entry_is_harmless file.source (plurals_for rules (t.message m)) (t.message m) s (middle file.source (plurals_for rules (t.message m)) (duplicate_findings rules.functions before (t.message m) at m.id) (own_findings rules file.source (t.message m) s) _ h)
+      let e = t.message m in
+      let own = middle file.source (plurals_for rules e) (duplicate_findings rules.functions before e at m.id) (own_findings rules file.source e s) _ h in
+      entry_is_harmless file.source (plurals_for rules e) e s (without_quoted file.source (plurals_for rules e) (is_quoted rules.reference e) _ own)
   tile_is_harmless before file (entry_tile at s (t.term m)) h =
-      entry_is_harmless file.source (plurals_for rules (t.term m)) (t.term m) s (middle file.source (plurals_for rules (t.term m)) (duplicate_findings rules.functions before (t.term m) at m.id) (own_findings rules file.source (t.term m) s) _ h)
+      let e = t.term m in
+      let own = middle file.source (plurals_for rules e) (duplicate_findings rules.functions before e at m.id) (own_findings rules file.source e s) _ h in
+      entry_is_harmless file.source (plurals_for rules e) e s (without_quoted file.source (plurals_for rules e) (is_quoted rules.reference e) _ own)
   tile_is_harmless before file (entry_tile at s (t.comment c)) h = All-nil (λ p. Harmless p.1)
   tile_is_harmless before file (entry_tile at s (t.group_comment c)) h = All-nil (λ p. Harmless p.1)
   tile_is_harmless before file (entry_tile at s (t.resource_comment c)) h = All-nil (λ p. Harmless p.1)

@@ -1,11 +1,11 @@
 -- What each finding says is so: those of references, of repeated variants, and of unused terms.
 use Rattle.std.proofs.Common.{◌≡◌, ◌∙◌, ℕ, ◌==◌, Bool, true, false, if◌then◌else◌, List, [], ◌∷◌, ◌++◌, length, map, Option, Some, None, refl, sym, ap, subst}
-use Rattle.std.specs.Prelude.{codes}
+use Rattle.std.specs.Prelude.{codes, not}
 use Rattle.std.specs.Option.{option_to_list}
 use Rattle.std.specs.List.{All, flat_map, list_any}
 use Rattle.std.specs.Str.{bytes_eq}
 use Rattle.std.proofs.lemmas.Bool.{false≢true}
-use Rattle.std.proofs.lemmas.List.Elements.{All-nil, All-cons, All-head, All-tail, All-append, Contains-append_left, Contains-append_right}
+use Rattle.std.proofs.lemmas.List.Elements.{All-nil, All-cons, All-head, All-tail, All-append, All-filter, Contains-append_left, Contains-append_right}
 use Rattle.fluent_grammar.specs.Words.{Text, is_among}
 use Rattle.fluent_grammar.specs.Refusal.{got}
 use Rattle.fluent_grammar.specs.Tree as t
@@ -37,7 +37,7 @@ use Rattle.lint_findings.specs.EntryFindings.{endless_remark, finding_in, node_f
 use Rattle.lint_findings.specs.Files.{File}
 use Rattle.lint_findings.specs.DuplicateIds.{Declaration, id_of, label_of, duplicate_findings}
 use Rattle.lint_findings.specs.UnusedTerms.{unused_remark, unused_findings}
-use Rattle.lint_findings.specs.Findings.{Rules, FileFinding, findings_if_first, findings_of_entry, findings_of_tile, own_findings, plurals_for}
+use Rattle.lint_findings.specs.Findings.{Rules, FileFinding, findings_if_first, findings_of_entry, findings_of_tile, is_quoted, own_findings, plurals_for, unless_quoted}
 use Rattle.lint_findings.specs.PlaceLaws.{IsReadAt, IsReadIn, nodes, ArePatternsAt}
 use Rattle.lint_findings.specs.FindingLaws.{syntax_codes, reference_codes, IsOfReference, source_selects, IsOfLostVariant, is_repeated, IsOfLoneTerm, is_unused}
 use Rattle.lint_findings.proofs.OccurrencesAreRead.{occurrences_are_read}
@@ -284,6 +284,12 @@ module _ (S : Type 0) (rules : Rules) (file : File) where
         let duplicates = duplicate_findings rules.functions before e at id in
         both duplicates _ (of_id before e at id) (both (own_findings rules source e s) _ h (unless_taken (length duplicates == 0) e at s read))
 
+    -- what is left of them is, too
+    of_own : (b : Bool) (fs : List Finding) → AreSound fs → AreSound (unless_quoted b fs)
+    of_own true fs h = All-filter (λ f. not (bytes_eq f.code (codes "placeable-in-literal"))) IsSound fs h
+    of_own false fs h = h
+
     pub of_entry_tile : (before : List Declaration) (at : ℕ) (s : Text) (e : t.Entry) → IsReadTile source (entry_tile at s e) → IsTileAmong (source_selects source) (entry_tile at s e) →
         AreSound (findings_of_tile rules before file (entry_tile at s e))
-    of_entry_tile before at s e read among = of_known before e at s (id_of e) read (of_entry (plurals_for rules e) e s read among)
+    of_entry_tile before at s e read among =
+        of_known before e at s (id_of e) read (of_own (is_quoted rules.reference e) _ (of_entry (plurals_for rules e) e s read among))

@@ -16,7 +16,7 @@ use Rattle.fluent_tidy_laws.specs.Joined.{lists}
 use Rattle.lint_findings.specs.Tiles.{Tile, entry_tile, junk_tile, tiles}
 use Rattle.lint_findings.specs.Comparison.{Difference, missing_message, obsolete_message, missing_value, obsolete_value, missing_attribute, obsolete_attribute, unknown_variable, missing_variable, unused_variable, untranslated, differences, variables_of, as_message}
 use Rattle.lint_findings.specs.ComparisonFindings.{difference_finding, difference_findings, loss_finding, loss_findings, message_findings, missing_findings, spotted_finding, texts_beside, texts_findings}
-use Rattle.lint_findings.specs.Doubts.{Doubt, Spotted, broken_entity, broken_tag, changed_number, changed_style, changed_url, double_space, edge_space, empty_text, empty_variant, long_access_key, long_key, long_text, lost_key, lost_placeholder, lost_sign, missing_element, missing_name, new_placeholder, straight_quote, three_dots, unclosed, unknown_element, unknown_name, unopened, unpaired_quote}
+use Rattle.lint_findings.specs.Doubts.{Doubt, Spotted, broken_entity, broken_tag, changed_number, changed_style, changed_url, double_space, doubled_word, edge_space, empty_text, empty_variant, long_access_key, long_key, long_text, lost_key, lost_placeholder, lost_sign, missing_element, missing_name, new_placeholder, straight_quote, three_dots, unclosed, unknown_element, unknown_name, unopened, unpaired_quote}
 use Rattle.lint_findings.specs.Occurrences.{PatternPlace, entry_places}
 use Rattle.lint_findings.specs.Pairs.{on_texts}
 use Rattle.fluent_meaning.specs.Fallback.{with_attribute}
@@ -76,6 +76,7 @@ module _ (S : Type 0) (rules : Rules) (file : File) where
   of_doubt owner at p (changed_number x) = plain S rules file _ refl refl refl
   of_doubt owner at p (edge_space e) = plain S rules file _ refl refl refl
   of_doubt owner at p double_space = plain S rules file _ refl refl refl
+  of_doubt owner at p doubled_word = plain S rules file _ refl refl refl
   of_doubt owner at p three_dots = plain S rules file _ refl refl refl
   of_doubt owner at p straight_quote = plain S rules file _ refl refl refl
   of_doubt owner at p (unpaired_quote x) = plain S rules file _ refl refl refl

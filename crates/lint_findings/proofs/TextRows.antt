@@ -94,6 +94,15 @@ two_spaces : Says (codes "a = b c\n") (codes "a = b  d\n")
 unfolding computing_findings file same_elements Says
 two_spaces = refl
 
+a_word_that_stands_twice : Says (codes "a = b\n") (codes "a = zu zum Zum, c\n")
+    (codes "a.ftl:1:8: note: a: a word stands here twice [doubled-word]\n")
+unfolding computing_findings file same_elements Says
+a_word_that_stands_twice = refl
+
+a_word_that_may_stand_twice : Says (codes "a = b\n") (codes "a = die die c\n") []
+unfolding computing_findings file same_elements Says
+a_word_that_may_stand_twice = refl
+
 a_colon_that_is_lost : Says (codes "a = b:\n") (codes "a = c\n")
     (codes "a.ftl:1:5: note: a: the reference ends with a colon [final-punctuation]\n")
 unfolding computing_findings file same_elements Says

@@ -44,6 +44,7 @@ pub data Doubt : Type 0 where
   -- how it is typed
   edge_space : Edge → Doubt
   double_space : Doubt
+  doubled_word : Doubt
   three_dots : Doubt
   straight_quote : Doubt
   unpaired_quote : Text → Doubt
@@ -116,6 +117,7 @@ doubt_remark (new_placeholder s) = remark note (codes "changed-placeholder") (co
 doubt_remark (changed_number s) = remark note (codes "changed-number") (the_reference_has s)
 doubt_remark (edge_space e) = remark note (codes "edge-space") (edge_words e)
 doubt_remark double_space = remark note (codes "double-space") (codes "two spaces")
+doubt_remark doubled_word = remark note (codes "doubled-word") (codes "a word stands here twice")
 doubt_remark three_dots = remark note (codes "three-dots") (codes "the reference has `" ++ (0xE2 ∷ 0x80 ∷ 0xA6 ∷ codes "`"))
 doubt_remark straight_quote = remark note (codes "straight-quote") (codes "the reference has `" ++ (0xE2 ∷ 0x80 ∷ 0x9C ∷ codes "`"))
 doubt_remark (unpaired_quote s) = remark note (codes "unpaired-quote") (in_backticks s ++ codes " has no partner")

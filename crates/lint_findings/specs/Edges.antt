@@ -58,9 +58,14 @@ ellipses = (0xE2 ∷ 0x80 ∷ 0xA6 ∷ []) ∷ codes "..." ∷ (0xE2 ∷ 0x8B �
 abbrev pub colons : List Text
 colons = codes ":" ∷ (0xEF ∷ 0xBC ∷ 0x9A ∷ []) ∷ (0xD7 ∷ 0x83 ∷ []) ∷ []
 
--- U+06D4 is the last one but one
+-- those of Hindi, Armenian, Amharic, Khmer and Burmese
+abbrev pub other_full_stops : List Text
+other_full_stops =
+    (0xE0 ∷ 0xA5 ∷ 0xA4 ∷ []) ∷ (0xD6 ∷ 0x89 ∷ []) ∷ (0xE1 ∷ 0x8D ∷ 0xA2 ∷ []) ∷ (0xE1 ∷ 0x9F ∷ 0x94 ∷ []) ∷ (0xE1 ∷ 0x81 ∷ 0x8B ∷ []) ∷ []
+
+-- U+06D4 is the fourth
 abbrev pub full_stops : List Text
-full_stops = codes "." ∷ (0xE3 ∷ 0x80 ∷ 0x82 ∷ []) ∷ (0xEF ∷ 0xBC ∷ 0x8E ∷ []) ∷ (0xDB ∷ 0x94 ∷ []) ∷ (0xE0 ∷ 0xA5 ∷ 0xA4 ∷ []) ∷ []
+full_stops = codes "." ∷ (0xE3 ∷ 0x80 ∷ 0x82 ∷ []) ∷ (0xEF ∷ 0xBC ∷ 0x8E ∷ []) ∷ (0xDB ∷ 0x94 ∷ []) ∷ other_full_stops
 
 -- other signs, of which U+061F is the third, and a placeable
 abbrev pub others_last : List Text

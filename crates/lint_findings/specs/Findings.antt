@@ -1,7 +1,8 @@
 -- The findings of a catalog, and of a catalog with a reference.
-use Rattle.std.specs.Prelude.{ℕ, ◌==◌, Bool, false, if◌then◌else◌, List, [], ◌∷◌, ◌++◌, length, map, Option, Some, None}
+use Rattle.std.specs.Prelude.{ℕ, ◌==◌, Bool, false, not, if◌then◌else◌, List, [], ◌∷◌, ◌++◌, length, filter, map, Option, Some, None, codes}
 use Rattle.std.specs.List.{flat_map}
 use Rattle.std.specs.Option.{option_map_or}
+use Rattle.std.specs.Str.{bytes_eq}
 use Rattle.fluent_grammar.specs.Words.{Text}
 use Rattle.fluent_grammar.specs.Tree as t
 use Rattle.fluent_grammar.specs.Tree.{Inline}
@@ -18,6 +19,7 @@ use Rattle.lint_findings.specs.Comparison.{as_message, same_message}
 use Rattle.lint_findings.specs.Files.{File}
 use Rattle.lint_findings.specs.DuplicateIds.{Declaration, id_of, declarations, duplicate_findings}
 use Rattle.lint_findings.specs.ComparisonFindings.{message_findings, missing_findings}
+use Rattle.lint_findings.specs.Losses.{message_quotes}
 use Rattle.lint_findings.specs.UnusedTerms.{is_referred_in, unused_findings}
 
 -- What is known of the program and of the language: the functions that the program adds, and the plural rules, if
@@ -61,6 +63,15 @@ abbrev pub is_copy : Ids (Unit {0}) → t.Entry → Bool
 is_copy reference (t.message m) = option_map_or (same_message m) (as_message (find reference m.id)) false
 is_copy reference _ = false
 
+-- the message of the reference has a placeable in quotes
+abbrev pub is_quoted : Ids (Unit {0}) → t.Entry → Bool
+is_quoted reference (t.message m) = option_map_or message_quotes (as_message (find reference m.id)) false
+is_quoted reference _ = false
+
+-- findings without those of placeables in quotes, if these are right
+abbrev pub unless_quoted : Bool → List Finding → List Finding
+unless_quoted quoted fs = if quoted then filter (λ f. not (bytes_eq f.code (codes "placeable-in-literal"))) fs else fs
+
 module _ (rules : Rules) where
   -- The plural rules that an entry is looked at by: none for a copy, whose plural categories are those of the reference.
   abbrev pub plurals_for : t.Entry → Option LanguagePlurals
@@ -68,7 +79,8 @@ module _ (rules : Rules) where
 
   -- of the patterns of an entry
   abbrev pub own_findings : Text → t.Entry → Text → List Finding
-  own_findings source e s = entry_findings rules.ids rules.reference (plurals_for e) source e s
+  own_findings source e s =
+      unless_quoted (is_quoted rules.reference e) (entry_findings rules.ids rules.reference (plurals_for e) source e s)
 
   -- of an entry that counts: whether it is a term that nothing refers to, and how it differs from the reference
   abbrev pub findings_if_first : Text → t.Entry → ℕ → Text → List Finding

@@ -38,6 +38,7 @@ pub mod Placeholders
 pub mod Numbers
 pub mod Edges
 pub mod Typing
+pub mod Doubled
 pub mod Lengths
 pub mod Pairs
 pub mod Scripts

@@ -86,6 +86,9 @@ abbrev pub is_quoting : Node → Bool
 is_quoting (expression (t.string_literal raw)) = is_some (quoted raw)
 is_quoting _ = false
 
+abbrev pub message_quotes : t.Message → Bool
+message_quotes m = list_any is_quoting (message_nodes m)
+
 -- a variant with this key doesn't show this variable
 abbrev pub variants_lack : VariantKey → Text → Variants → Bool
 variants_lack k x t.no_variants = false

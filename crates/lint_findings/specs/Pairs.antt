@@ -7,6 +7,7 @@ use Rattle.fluent_grammar.specs.Tree as t
 use Rattle.fluent_grammar.specs.Tree.{Elements}
 use Rattle.fluent_meaning.specs.Same.{same_elements}
 use Rattle.lint_findings.specs.Addresses.{urls_beside}
+use Rattle.lint_findings.specs.Doubled.{doubled_words}
 use Rattle.lint_findings.specs.Doubts.{Spotted, long_access_key, long_key}
 use Rattle.lint_findings.specs.Edges.{edge_spaces, final_signs}
 use Rattle.lint_findings.specs.Entities.{broken_entities}
@@ -28,9 +29,10 @@ text_doubts texts others =
     ++ (changed_placeholders texts others
     ++ (numbers_beside texts others
     ++ (spaces_beside texts others
+    ++ (doubled_words texts others
     ++ (dots_beside texts others
     ++ (straight_quotes texts others
-    ++ unpaired_quotes texts others)))))
+    ++ unpaired_quotes texts others))))))
 
 -- the group of notes that are only made if they are asked for
 abbrev pub doubts : Elements → Elements → List Spotted

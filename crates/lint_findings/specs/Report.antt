@@ -22,7 +22,7 @@ shown notes fs = filter (λ (f : FileFinding). is_shown notes f.finding.severity
 -- the codes of the notes on texts, which are only shown if they are asked for
 abbrev pub text_codes : List Text
 text_codes =
-    codes "changed-url" ∷ codes "changed-placeholder" ∷ codes "changed-number" ∷ codes "edge-space" ∷ codes "double-space"
+    codes "changed-url" ∷ codes "changed-placeholder" ∷ codes "changed-number" ∷ codes "edge-space" ∷ codes "double-space" ∷ codes "doubled-word"
     ∷ codes "final-punctuation" ∷ codes "three-dots" ∷ codes "unpaired-quote" ∷ codes "straight-quote" ∷ codes "empty-text"
     ∷ codes "long-text" ∷ []
 

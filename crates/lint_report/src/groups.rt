@@ -6,12 +6,13 @@ ghost use Rattle.lint_findings.specs.Report as r;
 
 /// The codes of the notes on texts beside those of the reference, which are only shown if they are
 /// asked for.
-const TEXTS: [&str; 11] = [
+const TEXTS: [&str; 12] = [
     "changed-url",
     "changed-placeholder",
     "changed-number",
     "edge-space",
     "double-space",
+    "doubled-word",
     "final-punctuation",
     "three-dots",
     "unpaired-quote",

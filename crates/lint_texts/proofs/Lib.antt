@@ -10,3 +10,4 @@ pub mod Doubting
 pub mod EndSteps
 pub mod Passing
 pub mod FirstLooks
+pub mod DoubledSteps

@@ -191,7 +191,17 @@ fn ends_with_full_stop(text: &str) -> bool
 {
     ends_with(text, ".")
         || (ends_with(text, "。")
-            || (ends_with(text, "．") || (ends_with(text, "\u{06D4}") || ends_with(text, "।"))))
+            || (ends_with(text, "．")
+                || (ends_with(text, "\u{06D4}") || ends_with_other_full_stop(text))))
+}
+
+/// Those of Hindi, Armenian, Amharic, Khmer and Burmese.
+fn ends_with_other_full_stop(text: &str) -> bool
+    ensures { result ≡ e.ends_with_one e.other_full_stops text.now }
+{
+    ends_with(text, "।")
+        || (ends_with(text, "։")
+            || (ends_with(text, "።") || (ends_with(text, "។") || ends_with(text, "။"))))
 }
 
 /// Whether a text ends with another sign, or with a placeable.

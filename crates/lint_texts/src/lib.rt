@@ -13,6 +13,7 @@
 #![tactic(auto)]
 
 mod addresses;
+mod doubled;
 mod ends;
 mod lengths;
 mod numbers;

@@ -9,6 +9,7 @@ ghost use Rattle.lint_markup.specs.InCode.{Adds, AddsBeside, AddsOfPair, AddsOfP
 ghost use Rattle.lint_texts.specs.OfMessages.{access_key_said, beside_first, on_attribute_in, on_values};
 
 use crate::addresses::push_changed_url;
+use crate::doubled::push_doubled_word;
 use crate::ends::push_final_signs;
 use crate::lengths::{is_blank, push_empty_text, push_long_text};
 use crate::numbers::push_changed_number;
@@ -233,6 +234,7 @@ fn push_text_doubts(
     push_changed_placeholders(alloc, texts, others, found)?;
     push_changed_number(alloc, texts, others, found)?;
     push_double_space(alloc, texts, others, found)?;
+    push_doubled_word(alloc, texts, others, found)?;
     push_three_dots(alloc, texts, others, found)?;
     push_straight_quotes(alloc, texts, others, found)?;
     push_unpaired_quotes(alloc, texts, others, found)
