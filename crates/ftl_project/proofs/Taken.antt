@@ -2,7 +2,7 @@
 use Rattle.std.proofs.Common.{◌≡◌, ◌∙◌, ℕ, ◌+◌, List, [], ◌∷◌, ◌++◌, length, refl, ap, sym, append-nil, append_assoc, arith}
 use Rattle.std.specs.List.{flat_map}
 
-nothing_left : {X : Type 0} (l : List X) → length l ≡ 0 → l ≡ []
+pub nothing_left : {X : Type 0} (l : List X) → length l ≡ 0 → l ≡ []
 nothing_left [] h = refl
 nothing_left (x ∷ xs) h = absurd (omega arith)
 

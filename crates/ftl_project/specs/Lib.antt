@@ -1,5 +1,7 @@
 pub mod Baselines
+pub mod Chosen
 pub mod Counted
+pub mod GroupsFound
 pub mod JsonLines
 pub mod Left
 pub mod Reading

@@ -4,13 +4,14 @@ ghost use Rattle.ftl_project.specs.Ends.{EndsRead, IsAsked, IsReportFor, IsTable
 ghost use Rattle.ftl_project.specs.Reports.{report_view};
 
 use crate::baseline::{Baseline, read_baseline};
+use crate::chosen::{group_of, group_of_reference};
 use crate::language::{LintedProject, lint_languages};
 use crate::loading::load_project;
 use crate::locating::{current_folder, find_project};
 use crate::planned::{Planned, plans_of};
 use crate::project::{Project, paths_in};
 use crate::reference::{ReferenceFile, reference_files};
-use crate::report::{Group, Known, ProjectReport, group_of, group_of_reference, report_groups};
+use crate::report::{Group, Known, ProjectReport, report_groups};
 use crate::sources::{Sources, lent, read_project};
 use crate::table::{rows_of, table};
 use crate::wrong::ProjectError;

@@ -1,0 +1,52 @@
+-- The groups of a report: what is found in the reference, and in each language.
+use Rattle.std.specs.Prelude.{List, [], ◌∷◌, ◌++◌, Option, None, Some, String, filter, is_some, length, map, string_bytes}
+use Rattle.std.specs.Global.{Global}
+use Rattle.std.specs.List.{zip}
+use denote.Ref.{Bor}
+use Rattle.fluent_grammar.specs.Words.{Text}
+use Rattle.lint_findings.specs.View.{file_findings_view}
+use Rattle.lint_findings.specs.declared.records.FileFindings.{FileFindings}
+use Rattle.ftl_project.specs.Chosen.{PathFound, chosen}
+use Rattle.ftl_project.specs.Reports.{GroupFound}
+use Rattle.ftl_project.specs.declared.language.Linted.{Linted}
+use Rattle.ftl_project.specs.declared.language.LintedFile.{LintedFile}
+use Rattle.ftl_project.specs.declared.loading.Loaded.{Loaded}
+use Rattle.ftl_project.specs.declared.project.Project.{Project}
+use Rattle.ftl_project.specs.declared.reference.ReferenceFile.{ReferenceFile}
+
+abbrev pub paths : List (String Global) → List Text
+paths texts = map string_bytes texts
+
+abbrev pub file_at : Text → FileFindings → PathFound
+file_at path f = record { path = path; found = file_findings_view f }
+
+-- of the files of a language
+abbrev pub files_found : List LintedFile → List PathFound
+files_found files = map (λ (f : LintedFile). file_at (string_bytes f.planned.now.path) f.found) files
+
+-- what is found of a language as a whole, at the file of the project
+abbrev pub whole_found : Option (Bor Loaded) → Option FileFindings → List PathFound
+whole_found (Some file) (Some whole) = file_at (string_bytes file.now.path) whole ∷ []
+whole_found (Some file) None = []
+whole_found None whole = []
+
+abbrev pub group_of_language : Project → List Text → Linted → GroupFound
+group_of_language project only l = record {
+  locale = Some l.locale.now;
+  files = l.present;
+  found = chosen only (whole_found project.file l.whole ++ files_found l.files.items);
+}
+
+-- the files of the reference that were read, and what is found in each
+abbrev pub were_read : List ReferenceFile → List ReferenceFile
+were_read references = filter (λ (r : ReferenceFile). is_some r.file) references
+
+abbrev pub reference_found : List ReferenceFile → List FileFindings → List PathFound
+reference_found references fs = map (λ p. file_at p.0.path.now p.1) (zip (were_read references) fs)
+
+abbrev pub group_of_reference : List Text → List ReferenceFile → List FileFindings → GroupFound
+group_of_reference only references fs = record {
+  locale = None;
+  files = length fs;
+  found = chosen only (reference_found references fs);
+}
