@@ -3,4 +3,6 @@ mod Counted
 mod Later
 mod Lines
 mod Pieces
+mod Places
+mod ProjectReports
 mod Taken

@@ -1,21 +1,21 @@
 -- The groups of a report: what is found in the reference, and in each language.
-use Rattle.std.specs.Prelude.{List, [], ◌∷◌, ◌++◌, Option, None, Some, String, filter, is_some, length, map, string_bytes}
+use Rattle.std.specs.Prelude.{◌≡◌, List, [], ◌∷◌, ◌++◌, Option, None, Some, String, Vec, filter, is_some, length, map, string_bytes}
 use Rattle.std.specs.Global.{Global}
 use Rattle.std.specs.List.{zip}
 use denote.Ref.{Bor}
 use Rattle.fluent_grammar.specs.Words.{Text}
-use Rattle.lint_findings.specs.View.{file_findings_view}
+use Rattle.lint_findings.specs.View.{file_findings_view, findings_view}
 use Rattle.lint_findings.specs.declared.records.FileFindings.{FileFindings}
 use Rattle.ftl_project.specs.Chosen.{PathFound, chosen}
-use Rattle.ftl_project.specs.Reports.{GroupFound}
+use Rattle.ftl_project.specs.Paths.{paths}
+use Rattle.ftl_project.specs.Reports.{GroupFound, group_view, groups_view}
 use Rattle.ftl_project.specs.declared.language.Linted.{Linted}
 use Rattle.ftl_project.specs.declared.language.LintedFile.{LintedFile}
+use Rattle.ftl_project.specs.declared.language.LintedProject.{LintedProject}
 use Rattle.ftl_project.specs.declared.loading.Loaded.{Loaded}
 use Rattle.ftl_project.specs.declared.project.Project.{Project}
 use Rattle.ftl_project.specs.declared.reference.ReferenceFile.{ReferenceFile}
-
-abbrev pub paths : List (String Global) → List Text
-paths texts = map string_bytes texts
+use Rattle.ftl_project.specs.declared.report.Group.{Group}
 
 abbrev pub file_at : Text → FileFindings → PathFound
 file_at path f = record { path = path; found = file_findings_view f }
@@ -50,3 +50,27 @@ group_of_reference only references fs = record {
   files = length fs;
   found = chosen only (reference_found references fs);
 }
+
+-- the groups of a project: that of its reference, and then that of each language
+abbrev pub groups_found : Project → List Text → List ReferenceFile → LintedProject → List GroupFound
+groups_found project only references linted =
+    group_of_reference only references linted.reference.items ∷ map (group_of_language project only) linted.languages.items
+
+-- ---- what the code makes
+
+-- a group is that of a language, or of the reference, and groups are those of a project
+abbrev pub IsGroupOf : Project → List (String Global) → Linted → Group → Type 0
+IsGroupOf project only l g = group_view g ≡ group_of_language project (paths only) l
+
+abbrev pub IsGroupOfReference : List (String Global) → List ReferenceFile → List FileFindings → Group → Type 0
+IsGroupOfReference only references fs g = group_view g ≡ group_of_reference (paths only) references fs
+
+abbrev pub AreGroupsOf : Project → List (String Global) → List ReferenceFile → LintedProject → Vec Group Global → Type 0
+AreGroupsOf project only references linted gs = groups_view gs.items ≡ groups_found project (paths only) references linted
+
+-- those of these languages are appended, and what is found in these files, if they are chosen
+abbrev pub AppendsGroups : Project → List (String Global) → List Linted → Vec Group Global → Vec Group Global → Type 0
+AppendsGroups project only ls old new = groups_view new.items ≡ groups_view old.items ++ map (group_of_language project (paths only)) ls
+
+abbrev pub AppendsChosen : List (String Global) → List PathFound → Vec FileFindings Global → Vec FileFindings Global → Type 0
+AppendsChosen only files old new = findings_view new.items ≡ findings_view old.items ++ chosen (paths only) files

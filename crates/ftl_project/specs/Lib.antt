@@ -1,9 +1,12 @@
 pub mod Baselines
 pub mod Chosen
 pub mod Counted
+pub mod FilesRead
 pub mod GroupsFound
 pub mod JsonLines
 pub mod Left
+pub mod Paths
+pub mod ProjectReports
 pub mod Reading
 pub mod Reports
 pub mod Rows

@@ -1,12 +1,11 @@
 //! Which findings are reported: those of the files that are chosen.
-ghost use Rattle.std.specs.Prelude.{◌≡◌, ◌++◌, ◌∷◌, [], IfOk, OnOk};
+ghost use Rattle.std.specs.Prelude.{◌≡◌, ◌∷◌, [], IfOk, OnOk};
 ghost use Rattle.std.specs.List.{list_any};
-ghost use Rattle.lint_findings.specs.View.{findings_view};
-ghost use Rattle.ftl_project.specs.Chosen.{chosen, is_chosen, is_in};
-ghost use Rattle.ftl_project.specs.GroupsFound.{file_at, files_found, group_of_language, group_of_reference, paths, reference_found, whole_found};
-ghost use Rattle.ftl_project.specs.Reports.{group_view};
+ghost use Rattle.ftl_project.specs.Chosen.{is_chosen, is_in};
+ghost use Rattle.ftl_project.specs.GroupsFound.{AppendsChosen, AppendsGroups, AreGroupsOf, IsGroupOf, IsGroupOfReference, file_at, files_found, reference_found, whole_found};
+ghost use Rattle.ftl_project.specs.Paths.{paths};
 
-use crate::language::{Linted, LintedFile};
+use crate::language::{Linted, LintedFile, LintedProject};
 use crate::loading::Loaded;
 use crate::project::Project;
 use crate::reference::ReferenceFile;
@@ -15,18 +14,54 @@ use fluent_project::after;
 use lint_findings::FileFindings;
 use std::alloc::{AllocError, Global};
 
-/// The group of a language: the findings of the files that are among these, or of all.
+/// The groups of a report: that of the reference, and then that of each language, in their order.
 ///
 /// # Errors
 /// [`AllocError`] if memory runs out; nothing is kept.
-pub fn group_of<'s>(
+pub fn groups_found<'s>(
+    alloc: Global,
+    project: &Project<'_>,
+    only: &[String],
+    references: &[ReferenceFile<'s>],
+    linted: LintedProject<'s>,
+) -> Result<Vec<Group<'s>>, AllocError>
+    ensures { IfOk result (AreGroupsOf project.now only.now references.now linted.entry) }
+{
+    let LintedProject {
+        reference,
+        languages,
+    } = linted;
+    let mut groups = Vec::with_capacity(alloc, languages.len())?;
+    groups.push(group_of_reference(alloc, only, references, reference)?)?;
+    push_groups(&mut groups, alloc, project, only, languages)?;
+    Ok(groups)
+}
+
+/// Appends the groups of these languages.
+fn push_groups<'s>(
+    groups: &mut Vec<Group<'s>>,
+    alloc: Global,
+    project: &Project<'_>,
+    only: &[String],
+    languages: Vec<Linted<'s>>,
+) -> Result<(), AllocError>
+    ensures { OnOk result (AppendsGroups project.now only.now languages.entry.items
+        groups.old groups.new) }
+{
+    for language in languages {
+        groups.push(group_of(alloc, project, only, language)?)?;
+    }
+    Ok(())
+}
+
+/// The group of a language: the findings of the files that are among these, or of all.
+fn group_of<'s>(
     alloc: Global,
     project: &Project<'_>,
     only: &[String],
     linted: Linted<'s>,
 ) -> Result<Group<'s>, AllocError>
-    ensures { IfOk result (λ made. group_view made
-        ≡ group_of_language project.now (paths only.now) linted.entry) }
+    ensures { IfOk result (IsGroupOf project.now only.now linted.entry) }
 {
     let Linted {
         locale,
@@ -52,8 +87,8 @@ fn push_whole<'s>(
     file: Option<&Loaded>,
     whole: Option<FileFindings<'s>>,
 ) -> Result<(), AllocError>
-    ensures { OnOk result (findings_view found.new.items
-        ≡ findings_view found.old.items ++ chosen (paths only.now) (whole_found file.entry whole.entry)) }
+    ensures { OnOk result (AppendsChosen only.now (whole_found file.entry whole.entry)
+        found.old found.new) }
 {
     match (file, whole) {
         (Some(file), Some(whole)) => push_chosen(found, only, file.path.as_str(), whole),
@@ -67,8 +102,8 @@ fn push_files<'s>(
     only: &[String],
     files: Vec<LintedFile<'s>>,
 ) -> Result<(), AllocError>
-    ensures { OnOk result (findings_view found.new.items
-        ≡ findings_view found.old.items ++ chosen (paths only.now) (files_found files.entry.items)) }
+    ensures { OnOk result (AppendsChosen only.now (files_found files.entry.items)
+        found.old found.new) }
 {
     for file in files {
         let LintedFile {
@@ -83,17 +118,13 @@ fn push_files<'s>(
 
 /// The group of the reference: the findings of the files that are among these, or of all. They are
 /// those of the files that were read, in their order.
-///
-/// # Errors
-/// [`AllocError`] if memory runs out; nothing is kept.
-pub fn group_of_reference<'s>(
+fn group_of_reference<'s>(
     alloc: Global,
     only: &[String],
     references: &[ReferenceFile<'s>],
     findings: Vec<FileFindings<'s>>,
 ) -> Result<Group<'s>, AllocError>
-    ensures { IfOk result (λ made. group_view made
-        ≡ group_of_reference (paths only.now) references.now findings.entry.items) }
+    ensures { IfOk result (IsGroupOfReference only.now references.now findings.entry.items) }
 {
     let files = findings.len();
     let mut found = Vec::with_capacity(alloc, files)?;
@@ -111,12 +142,12 @@ fn push_references<'s>(
     found: &mut Vec<FileFindings<'s>>,
     only: &[String],
     references: &[ReferenceFile<'s>],
-    findings: Vec<FileFindings<'s>>,
+    theirs: Vec<FileFindings<'s>>,
 ) -> Result<(), AllocError>
-    ensures { OnOk result (findings_view found.new.items ≡ findings_view found.old.items
-        ++ chosen (paths only.now) (reference_found references.now findings.entry.items)) }
+    ensures { OnOk result (AppendsChosen only.now
+        (reference_found references.now theirs.entry.items) found.old found.new) }
 {
-    let mut rest = findings.into_iter();
+    let mut rest = theirs.into_iter();
     for reference in references {
         if reference.file.is_some() {
             if let Some(file) = rest.next() {
@@ -134,8 +165,8 @@ fn push_chosen<'s>(
     path: &str,
     file: FileFindings<'s>,
 ) -> Result<(), AllocError>
-    ensures { OnOk result (findings_view found.new.items
-        ≡ findings_view found.old.items ++ chosen (paths only.now) (file_at path.now file.entry ∷ [])) }
+    ensures { OnOk result (AppendsChosen only.now (file_at path.now file.entry ∷ [])
+        found.old found.new) }
 {
     if is_chosen(only, path) {
         found.push(file)?;
@@ -144,7 +175,7 @@ fn push_chosen<'s>(
 }
 
 /// Whether a path is one of these or below one, or there are none.
-pub fn is_chosen(only: &[String], path: &str) -> bool
+fn is_chosen(only: &[String], path: &str) -> bool
     ensures { result ≡ is_chosen (paths only.now) path.now }
 {
     match only {

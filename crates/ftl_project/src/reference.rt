@@ -1,4 +1,6 @@
 //! The files of a project's reference.
+ghost use Rattle.fluent_project.specs.Views.{plain};
+ghost use Rattle.ftl_project.specs.FilesRead.{IsPlaceOf};
 
 use crate::sources::Sources;
 use fluent_project::relative_path;
@@ -43,6 +45,8 @@ pub fn reference_files<'s>(
 }
 
 /// Where a path is among these, which are in the order of their bytes.
-pub(crate) fn index_of(paths: &[&str], path: &str) -> Option<usize> {
+pub(crate) fn index_of(paths: &[&str], path: &str) -> Option<usize>
+    ensures { IsPlaceOf path.now (plain paths.now) result }
+{
     paths.binary_search_by(|other| (**other).cmp(path)).ok()
 }

@@ -3,7 +3,8 @@ use Rattle.std.specs.List.{flat_map}
 use Rattle.std.specs.Vec.Iter.{into_iter_items, into_iter_len}
 use Rattle.lint_findings.specs.View.{findings_view}
 use Rattle.ftl_project.specs.Chosen.{chosen}
-use Rattle.ftl_project.specs.GroupsFound.{file_at, paths}
+use Rattle.ftl_project.specs.GroupsFound.{file_at}
+use Rattle.ftl_project.specs.Paths.{paths}
 use Rattle.ftl_project.specs.declared.language.LintedFile.{LintedFile}
 use Rattle.ftl_project.proofs.Taken.{GivenSoFar}
 use Rattle.ftl_project.proofs.chosen.push_files.Given as goal

@@ -3,7 +3,8 @@ use Rattle.std.specs.Option.{option_to_list}
 use Rattle.std.specs.Vec.Iter.{into_iter_items, into_iter_len, into_iter_steps}
 use Rattle.lint_findings.specs.View.{findings_view}
 use Rattle.ftl_project.specs.Chosen.{chosen}
-use Rattle.ftl_project.specs.GroupsFound.{paths, reference_found}
+use Rattle.ftl_project.specs.GroupsFound.{reference_found}
+use Rattle.ftl_project.specs.Paths.{paths}
 use Rattle.ftl_project.proofs.Chosen.{skip_unread, stop_found, take_read}
 use Rattle.ftl_project.proofs.chosen.push_references.Goals.{then-is_some+in-Some+in_ok-push_chosen, then-is_some+in_default, else-is_some}
 use Rattle.ftl_project.proofs.chosen.push_references.Goals as goal
