@@ -5,7 +5,6 @@ use borrow.Author.Tests.{ne_eqb}
 use Rattle.std.specs.List.{flat_map, zip}
 use Rattle.std.specs.Option.{option_and_then}
 use Rattle.std.specs.Str.{bytes_eq}
-use Rattle.std.proofs.lemmas.List.Concat.{flat_map-append}
 use Rattle.fluent_grammar.specs.Words.{Text}
 use Rattle.fluent_project.specs.Patterns.{is_slash}
 use Rattle.fluent_project.specs.Relative.{after_slash, below}
@@ -13,8 +12,7 @@ use Rattle.fluent_project.specs.Taking.{after, is_none}
 use Rattle.lint_findings.specs.Findings.{FileFinding}
 use Rattle.lint_findings.specs.declared.records.FileFindings.{FileFindings}
 use Rattle.ftl_project.specs.Chosen.{PathFound, chosen, is_chosen, is_in}
-use Rattle.ftl_project.specs.GroupsFound.{file_at, files_found, reference_found, were_read}
-use Rattle.ftl_project.specs.declared.language.LintedFile.{LintedFile}
+use Rattle.ftl_project.specs.GroupsFound.{file_at, reference_found, were_read}
 use Rattle.ftl_project.specs.declared.reference.ReferenceFile.{ReferenceFile}
 use Rattle.ftl_project.proofs.Taken.{nothing_left}
 

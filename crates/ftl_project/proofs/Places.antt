@@ -1,8 +1,8 @@
 -- Where a path is among others that ascend.
-use Rattle.std.proofs.Common.{◌≡◌, ◌∙◌, Bool, true, false, ◌||◌, ℕ, zero, suc, ◌+◌, ◌<◌, ◌≤◌, List, [], ◌∷◌, length, map, Option, None, Some, Result, Ok, Err, refl, ap, sym, arith}
+use Rattle.std.proofs.Common.{◌≡◌, ◌∙◌, false, ◌||◌, ℕ, zero, suc, ◌<◌, ◌≤◌, List, [], ◌∷◌, length, Some, Result, Ok, Err, refl, ap, sym, arith}
 use Rattle.std.specs.Prelude.{slice_index_or}
-use Rattle.std.specs.List.{AllWithin, AllByRecursion, HoldsAt, list_any, slice_get}
-use Rattle.std.specs.List.Sorted.{IsStrictlySortedBy, IsNonDecreasingBy, IsBinarySearchResult, IsPartitionPoint, IsSearchInRange}
+use Rattle.std.specs.List.{AllWithin, AllByRecursion, HoldsAt, slice_get}
+use Rattle.std.specs.List.Sorted.{IsStrictlySortedBy, IsNonDecreasingBy, IsBinarySearchResult, IsSearchInRange}
 use Rattle.std.specs.declared.cmp.Ordering.{Ordering}
 use Rattle.std.specs.declared.cmp.Ordering.TheVariants.{Less, Equal, Greater}
 use Rattle.std.specs.Ordering.{nat_cmp, ordering_index, is_eq}
@@ -17,7 +17,7 @@ use denote.Ref.{Bor}
 use Rattle.fluent_grammar.specs.Words.{Text}
 use Rattle.fluent_project.specs.Pairs.{is_among}
 use Rattle.fluent_project.specs.Views.{plain}
-use Rattle.ftl_project.specs.FilesRead.{AreInOrder, IsPlaceOf}
+use Rattle.ftl_project.specs.FilesRead.{IsPlaceOf}
 
 abbrev order : Text → Text → Ordering
 order = slice_cmp nat_cmp

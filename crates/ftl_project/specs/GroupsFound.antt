@@ -17,6 +17,7 @@ use Rattle.ftl_project.specs.declared.project.Project.{Project}
 use Rattle.ftl_project.specs.declared.reference.ReferenceFile.{ReferenceFile}
 use Rattle.ftl_project.specs.declared.report.Group.{Group}
 
+-- what is found in a file, with a path
 abbrev pub file_at : Text → FileFindings → PathFound
 file_at path f = record { path = path; found = file_findings_view f }
 

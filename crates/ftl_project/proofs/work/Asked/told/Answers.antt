@@ -4,7 +4,6 @@ use Rattle.ftl_arguments.specs.CommandView.{project_lint_view}
 use Rattle.ftl_project.specs.Ends.{IsAsked, IsReportKnowing}
 use Rattle.ftl_project.specs.ProjectReports.{IsReportOn, seen_by}
 use Rattle.ftl_project.specs.Reports.{report_view}
-use Rattle.ftl_project.specs.declared.report.ProjectReport.{ProjectReport}
 use Rattle.ftl_project.proofs.work.Asked.told.Goals as goal
 
 pub returns-in-Lint : goal.returns-in-Lint
