@@ -2,6 +2,7 @@ mod Chosen
 mod Counted
 mod Later
 mod Lines
+mod Pairing
 mod Pieces
 mod Places
 mod ProjectReports

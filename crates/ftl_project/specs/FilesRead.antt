@@ -22,3 +22,6 @@ IsPlaceOf path paths None = AreInOrder paths → is_among paths path ≡ false
 -- what was read of the file at this place
 abbrev pub read_at : List (Option SourceFile) → ℕ → Option File
 read_at files place = option_and_then (λ f. option_map source_view f) (slice_get files place)
+
+abbrev pub read_if : List (Option SourceFile) → Option ℕ → Option File
+read_if files place = option_and_then (read_at files) place

@@ -8,6 +8,7 @@ pub mod Left
 pub mod Paths
 pub mod ProjectReports
 pub mod Reading
+pub mod References
 pub mod Reports
 pub mod Rows
 pub mod Ends
