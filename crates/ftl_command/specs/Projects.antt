@@ -8,7 +8,8 @@ use Rattle.ftl_files.specs.Files.{IsReplaced, State}
 use Rattle.ftl_project.specs.Ends.{baseline_of}
 use Rattle.ftl_project.specs.declared.work.ProjectEnd.{ProjectEnd}
 use Rattle.ftl_project.specs.Reading.{AreReadLater, Unread}
-use Rattle.ftl_project.specs.Reports.{IsReport, Written}
+use Rattle.ftl_project.specs.ProjectReports.{IsProjectReport}
+use Rattle.ftl_project.specs.Reports.{Written}
 use Rattle.ftl_command.specs.Program.{WritesFront}
 use Rattle.ftl_command.specs.Reported.{EndsOf}
 use Rattle.ftl_command.specs.declared.ended.Ended.{Ended}
@@ -48,7 +49,7 @@ pub record ProjectEnds (Is : Written → Type 0) (before after : State) (held he
 pub record ProjectLintEnds (l : ProjectLint) (before after : State) (held held_after : Option Text) (result : Result Ended Fault) : Type 0 where
   pub middle : State
   pub baseline : Text
-  pub ends : ProjectEnds (IsReport l.format l.notes l.strict) before middle held held_after result
+  pub ends : ProjectEnds (IsProjectReport l) before middle held held_after result
   pub written : OnOk result (HoldsBaseline l.written baseline middle.contents after.contents)
   -- after a fault, too, no other file changed
   pub kept : (after.contents ≡ middle.contents) ⊎ HoldsBaseline l.written baseline middle.contents after.contents

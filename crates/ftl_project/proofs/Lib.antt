@@ -1,5 +1,9 @@
+mod ChosenPaths
 mod Counted
 mod Later
 mod Lines
+mod Pairing
 mod Pieces
+mod Places
+mod ProjectReports
 mod Taken

@@ -1,8 +1,8 @@
 -- Items that are taken one after the other, each of which gives some.
-use Rattle.std.proofs.Common.{◌≡◌, ◌∙◌, ℕ, ◌+◌, List, [], ◌∷◌, ◌++◌, length, refl, ap, sym, append-nil, append_assoc, arith}
+use Rattle.std.proofs.Common.{◌≡◌, ◌∙◌, ℕ, ◌+◌, List, [], ◌∷◌, ◌++◌, length, map, refl, ap, sym, append-nil, append_assoc, arith}
 use Rattle.std.specs.List.{flat_map}
 
-nothing_left : {X : Type 0} (l : List X) → length l ≡ 0 → l ≡ []
+pub nothing_left : {X : Type 0} (l : List X) → length l ≡ 0 → l ≡ []
 nothing_left [] h = refl
 nothing_left (x ∷ xs) h = absurd (omega arith)
 
@@ -22,3 +22,8 @@ module _ {X Y : Type 0} (given : X → List Y) (all : List Y) where
   pub given_at_last : (now : List Y) (left : List X) (count : ℕ) → GivenSoFar now left count → count ≡ 0 → now ≡ all
   given_at_last now left count so_far none =
       sym (append-nil now) ∙ ap (λ l. now ++ flat_map given l) (sym (nothing_left left (sym so_far.1 ∙ none))) ∙ so_far.0
+
+-- one of each
+pub given_ones : {X Y : Type 0} (one : X → Y) (xs : List X) → flat_map (λ x. one x ∷ []) xs ≡ map one xs
+given_ones one [] = refl
+given_ones one (x ∷ xs) = ap (λ l. one x ∷ l) (given_ones one xs)

@@ -2,19 +2,24 @@
 use Rattle.std.specs.Prelude.{◌≡◌, [], None, Option, Some, String, false, string_bytes}
 use Rattle.std.specs.Global.{Global}
 use Rattle.fluent_grammar.specs.Words.{Text}
-use Rattle.lint_report.specs.Formats.{format_view}
+use Rattle.ftl_arguments.specs.CommandView.{project_lint_view}
 use Rattle.ftl_arguments.specs.declared.commands.ProjectLint.{ProjectLint}
 use Rattle.ftl_files.specs.States.{state_of}
 use Rattle.ftl_files.specs.declared.folder.Folder.{Ghosts as FolderGhosts}
+use Rattle.ftl_project.specs.ProjectReports.{IsProjectReport, IsReportWith}
 use Rattle.ftl_project.specs.Reading.{AreReadLater, Unread}
-use Rattle.ftl_project.specs.Reports.{IsReport, Written}
+use Rattle.ftl_project.specs.Reports.{Written}
+use Rattle.ftl_project.specs.declared.report.Known.{Known}
 use Rattle.ftl_project.specs.declared.work.ProjectEnd.{ProjectEnd}
 use Rattle.ftl_project.specs.declared.work.Work.{Work}
 use Rattle.ftl_project.specs.declared.work.Work.TheVariants as work
 
--- the report that is asked for
+-- the report that is asked for, and the same with what is known
 abbrev pub IsReportFor : ProjectLint → Written → Type 0
-IsReportFor l w = IsReport (format_view l.format) l.notes l.strict w
+IsReportFor l w = IsProjectReport (project_lint_view l) w
+
+abbrev pub IsReportKnowing : ProjectLint → Known → Written → Type 0
+IsReportKnowing l known w = IsReportWith (project_lint_view l) known w
 
 -- a table fails no project
 abbrev pub IsTable : Written → Type 0
@@ -22,7 +27,7 @@ IsTable w = w.has_failed ≡ false
 
 -- what is asked for
 abbrev pub IsAsked : Work → Written → Type 0
-IsAsked (work.Lint l known) w = IsReportFor l.now w
+IsAsked (work.Lint l known) w = IsReportKnowing l.now known.now w
 IsAsked (work.Status s) w = IsTable w
 
 abbrev pub written_in : ProjectEnd → Written

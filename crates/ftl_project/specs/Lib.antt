@@ -1,8 +1,14 @@
 pub mod Baselines
+pub mod Chosen
 pub mod Counted
+pub mod FilesRead
+pub mod GroupsFound
 pub mod JsonLines
 pub mod Left
+pub mod Paths
+pub mod ProjectReports
 pub mod Reading
+pub mod References
 pub mod Reports
 pub mod Rows
 pub mod Ends

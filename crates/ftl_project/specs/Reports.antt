@@ -67,11 +67,6 @@ pub record IsReportOf (format : Format) (notes strict : Bool) (groups : List Gro
   pub text : w.text ≡ groups_text format notes groups
   pub failed : w.has_failed ≡ list_any (group_fails strict) groups
 
--- so it is of some groups
-pub record IsReport (format : Format) (notes strict : Bool) (w : Written) : Type 0 where
-  pub groups : List GroupFound
-  pub of : IsReportOf format notes strict groups w
-
 -- ---- the code's values
 
 abbrev pub group_view : Group → GroupFound

@@ -1,4 +1,6 @@
 //! What a file of a project says, with its patterns read.
+ghost use Rattle.std.specs.Prelude.{◌≡◌, IfOk, string_bytes};
+ghost use Rattle.ftl_project.specs.Paths.{path_in};
 
 use fluent_project::{
     FileError, FilterRule, ProjectFile, Rule, Setting, Settings, Variables, file_of, filters_of,
@@ -88,7 +90,9 @@ pub(crate) fn add_all<'f>(
 }
 
 /// A path in a folder, without `.`, `..` and slashes that follow each other.
-pub(crate) fn path_in(alloc: Global, folder: &str, path: &str) -> Result<String, AllocError> {
+pub(crate) fn path_in(alloc: Global, folder: &str, path: &str) -> Result<String, AllocError>
+    ensures { IfOk result (λ made. string_bytes made ≡ path_in folder.now path.now) }
+{
     let parts = joined(
         alloc,
         folder.as_bytes(),

@@ -6,6 +6,7 @@
 #![tactic(auto)]
 
 mod baseline;
+mod chosen;
 mod config;
 mod filtered;
 mod groups;

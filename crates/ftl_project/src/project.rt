@@ -1,4 +1,7 @@
 //! A project: its languages, and which files are translated from which.
+ghost use Rattle.std.specs.Prelude.{◌≡◌, IfOk, map};
+ghost use Rattle.fluent_project.specs.Views.{plain};
+ghost use Rattle.ftl_project.specs.Paths.{path_in, paths};
 
 use crate::config::{Config, add_all, config_of, path_in};
 use crate::loading::{Loaded, folder_of_file};
@@ -346,7 +349,9 @@ fn pattern_of(alloc: Global, here: &str, text: &str) -> Result<Vec<Part>, Projec
 ///
 /// # Errors
 /// [`AllocError`] if memory runs out; nothing is kept.
-pub fn paths_in(alloc: Global, here: &str, names: &[&str]) -> Result<Vec<String>, AllocError> {
+pub fn paths_in(alloc: Global, here: &str, names: &[&str]) -> Result<Vec<String>, AllocError>
+    ensures { IfOk result (λ made. paths made.items ≡ map (path_in here.now) (plain names.now)) }
+{
     let mut paths = Vec::with_capacity(alloc, names.len())?;
     for name in names {
         paths.push(path_in(alloc, here, name)?)?;

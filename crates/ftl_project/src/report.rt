@@ -9,9 +9,6 @@ ghost use Rattle.ftl_project.specs.Reports.{all_found, group_fails, group_lines,
 
 use crate::baseline::Baseline;
 use crate::json::push_json_findings;
-use crate::language::{Linted, LintedFile};
-use crate::project::Project;
-use crate::reference::ReferenceFile;
 use fluent_lint::{Output, keep_reported, push_totals};
 use lint_findings::FileFindings;
 use lint_report::{Format, has_failed, push_masked, report};
@@ -252,89 +249,4 @@ fn all_found<'s>(alloc: Global, groups: Vec<Group<'s>>) -> Result<Vec<FileFindin
         all.append(&mut found)?;
     }
     Ok(all)
-}
-
-/// The group of a language: the findings of the files that are among these, or of all.
-///
-/// # Errors
-/// [`AllocError`] if memory runs out; nothing is kept.
-pub fn group_of<'s>(
-    alloc: Global,
-    project: &Project<'_>,
-    only: &[String],
-    linted: Linted<'s>,
-) -> Result<Group<'s>, AllocError> {
-    let Linted {
-        locale,
-        files,
-        present,
-        whole,
-        ..
-    } = linted;
-    let mut found = Vec::with_capacity(alloc, files.len())?;
-    if let (Some(whole), Some(file)) = (whole, project.file) {
-        if is_among(only, file.path.as_str()) {
-            found.push(whole)?;
-        }
-    }
-    for file in files {
-        let LintedFile {
-            planned,
-            found: findings,
-            ..
-        } = file;
-        if is_among(only, planned.path.as_str()) {
-            found.push(findings)?;
-        }
-    }
-    Ok(Group {
-        locale: Some(locale),
-        found,
-        files: present,
-    })
-}
-
-/// The group of the reference: the findings of the files that are among these, or of all. They are
-/// those of the files that were read, in their order.
-///
-/// # Errors
-/// [`AllocError`] if memory runs out; nothing is kept.
-pub fn group_of_reference<'s>(
-    alloc: Global,
-    only: &[String],
-    references: &[ReferenceFile<'s>],
-    findings: Vec<FileFindings<'s>>,
-) -> Result<Group<'s>, AllocError> {
-    let files = findings.len();
-    let mut rest = findings;
-    rest.reverse();
-    let mut found = Vec::with_capacity(alloc, files)?;
-    for reference in references {
-        if reference.file.is_none() {
-            continue;
-        }
-        if let Some(file) = rest.pop() {
-            if is_among(only, reference.path) {
-                found.push(file)?;
-            }
-        }
-    }
-    Ok(Group {
-        locale: None,
-        found,
-        files,
-    })
-}
-
-/// Whether a path is one of these or below one, or there are none.
-pub fn is_among(only: &[String], path: &str) -> bool {
-    only.is_empty() || only.iter().any(|other| is_in(other.as_str(), path))
-}
-
-/// Whether a path is this one, or below it.
-fn is_in(folder: &str, path: &str) -> bool {
-    match path.strip_prefix(folder) {
-        Some(rest) => rest.is_empty() || rest.starts_with('/') || folder.is_empty(),
-        None => false,
-    }
 }

@@ -1,5 +1,9 @@
 //! The files of a project that are read, each once.
-ghost use Rattle.std.specs.Prelude.{◌≡◌, IfOk};
+ghost use Rattle.std.specs.Prelude.{◌≡◌, IfOk, option_map};
+ghost use Rattle.fluent_project.specs.Views.{plain};
+ghost use Rattle.lint_findings.specs.View.{file_view};
+ghost use Rattle.ftl_project.specs.FilesRead.{read_at};
+ghost use Rattle.ftl_project.specs.Paths.{paths};
 ghost use Rattle.ftl_project.specs.Reading.{AreReadOn};
 
 use crate::planned::Planned;
@@ -50,8 +54,14 @@ pub fn read_project<F: Folder>(
 }
 
 /// The texts, lent.
-pub(crate) fn lent(alloc: Global, texts: &[String]) -> Result<Vec<&str>, AllocError> {
-    texts.iter().map(|text| text.as_str()).collect(alloc)
+pub(crate) fn lent(alloc: Global, texts: &[String]) -> Result<Vec<&str>, AllocError>
+    ensures { IfOk result (λ lent. plain lent.items ≡ paths texts.now) }
+{
+    let mut lent = Vec::with_capacity(alloc, texts.len())?;
+    for text in texts {
+        lent.push(text.as_str())?;
+    }
+    Ok(lent)
 }
 
 /// Which files are read.
@@ -159,7 +169,9 @@ fn is_of(name: &Option<String>, file: Option<&SourceFile>) -> bool {
 
 impl Sources {
     /// The file at this index of all, if it was read.
-    pub fn file(&self, index: usize) -> Option<File<'_>> {
+    pub fn file(&self, index: usize) -> Option<File<'_>>
+        ensures { option_map file_view result ≡ read_at self.now.files.items index }
+    {
         match self.files.get(index) {
             Some(Some(file)) => Some(File {
                 name: file.name.as_str(),

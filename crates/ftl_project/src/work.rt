@@ -1,16 +1,19 @@
 //! What is asked of a project: its report, or its table.
-ghost use Rattle.std.specs.Prelude.{◌≡◌, IfOk};
+ghost use Rattle.std.specs.Prelude.{◌≡◌, ◌++◌, IfOk};
+ghost use Rattle.fluent_project.specs.Views.{plain};
 ghost use Rattle.ftl_project.specs.Ends.{EndsRead, IsAsked, IsReportFor, IsTable, written_in};
+ghost use Rattle.ftl_project.specs.ProjectReports.{IsReportMade, seen_by};
 ghost use Rattle.ftl_project.specs.Reports.{report_view};
 
 use crate::baseline::{Baseline, read_baseline};
+use crate::chosen::groups_found;
 use crate::language::{LintedProject, lint_languages};
 use crate::loading::load_project;
 use crate::locating::{current_folder, find_project};
 use crate::planned::{Planned, plans_of};
 use crate::project::{Project, paths_in};
 use crate::reference::{ReferenceFile, reference_files};
-use crate::report::{Group, Known, ProjectReport, group_of, group_of_reference, report_groups};
+use crate::report::{Known, ProjectReport, report_groups};
 use crate::sources::{Sources, lent, read_project};
 use crate::table::{rows_of, table};
 use crate::wrong::ProjectError;
@@ -311,13 +314,12 @@ impl Asked<'_> {
         lint: &ProjectLint<'_>,
         known: &Known<'_>,
     ) -> Result<ProjectReport, AllocError>
-        ensures { IfOk result (λ made. IsReportFor lint.now (report_view made)) }
+        ensures { IfOk result (IsReportMade lint.now known.now
+            (seen_by self.now project.now references.now linted.entry)) }
     {
         let alloc = self.alloc;
         let only = paths_in(alloc, self.here, &lint.only)?;
-        let mut ignored = Vec::new(alloc);
-        ignored.extend_from_slice(&project.ignored)?;
-        ignored.extend_from_slice(&lint.ignored)?;
+        let ignored = both(alloc, &project.ignored, &lint.ignored)?;
         let output = Output {
             format: lint.format,
             ignored: &ignored,
@@ -325,17 +327,23 @@ impl Asked<'_> {
             counts: false,
             strict: lint.strict,
         };
-        let LintedProject {
-            reference,
-            languages,
-        } = linted;
-        let mut groups: Vec<Group<'s>> = Vec::with_capacity(alloc, languages.len())?;
-        groups.push(group_of_reference(alloc, &only, references, reference)?)?;
-        for language in languages {
-            groups.push(group_of(alloc, project, &only, language)?)?;
-        }
+        let groups = groups_found(alloc, project, &only, references, linted)?;
         report_groups(alloc, output, *known, groups)
     }
+}
+
+/// These texts, and then those.
+fn both<'t>(
+    alloc: Global,
+    first: &[&'t str],
+    second: &[&'t str],
+) -> Result<Vec<&'t str>, AllocError>
+    ensures { IfOk result (λ all. plain all.items ≡ plain first.now ++ plain second.now) }
+{
+    let mut all = Vec::new(alloc);
+    all.extend_from_slice(first)?;
+    all.extend_from_slice(second)?;
+    Ok(all)
 }
 
 /// Whether a tag is one of these.
